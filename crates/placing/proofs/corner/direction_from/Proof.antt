@@ -1,0 +1,16 @@
+use borrow.Author.Tests.{eq-eqb, ne-eqb}
+use Rattle.placing.proofs.corner.direction_from.Statement.{statement}
+use Rattle.placing.proofs.corner.direction_from.Tie as tie
+use Rattle.placing.proofs.corner.direction_from.Reads as reads
+use Rattle.placing.proofs.corner.direction_from.Lts as lts
+
+-- src/corner.rt:20:1
+returns : tie.Need-returns
+returns c = simp (eq-eqb _ _ (c .if1 .taken))
+
+-- src/corner.rt:20:1
+returns-2 : tie.Need-returns-2
+returns-2 c = simp (ne-eqb _ _ (c .if1 .left))
+
+pub direction-from-spec : {M : Type 1} → statement M
+direction-from-spec = tie.close (tie.spec returns returns-2)

@@ -1,0 +1,54 @@
+use Rattle.placing.specs.Decides.{decides-second, decides-no}
+use borrow.Author.Needs.{needs}
+use Rattle.placing.proofs.geometry.meet.Statement.{statement}
+use Rattle.placing.proofs.geometry.meet.Tie as tie
+use Rattle.placing.proofs.geometry.meet.Reads as reads
+use Rattle.placing.proofs.geometry.meet.Lts as lts
+use Rattle.placing.proofs.corner.directions_of.Reads as directions-of-reads
+use Rattle.placing.proofs.geometry.overlap.Reads as overlap-reads
+
+-- src/geometry.rt:62:9
+directions-of-requires : tie.Need-directions-of-requires
+directions-of-requires c κs = search needs
+
+-- src/geometry.rt:63:9
+directions-of-requires-2 : tie.Need-directions-of-requires-2
+directions-of-requires-2 c κs = search needs
+
+-- src/geometry.rt:68:8
+overlap-requires : tie.Need-overlap-requires
+overlap-requires c κs = search needs
+
+-- src/geometry.rt:69:9
+overlap-requires-2 : tie.Need-overlap-requires-2
+overlap-requires-2 c κs = search needs
+
+-- src/geometry.rt:58:1
+returns : tie.Need-returns
+returns c =
+    let at-first = c .before .before in
+    let at-first-corner = at-first .before .before .directions-of .ensures in
+    let at-second-corner = at-first .before .directions-of2 .ensures in
+    decides-second
+    (rw (at-first-corner, at-second-corner) at (at-first .overlap .ensures .yes-holds (c .before .if1 .taken)))
+    (rw (at-first-corner, at-second-corner) at (c .overlap2 .ensures))
+    (λ f s. record { along-x = f; along-y = s }) (λ b. b .along-y)
+
+-- src/geometry.rt:58:1
+returns-2 : tie.Need-returns-2
+returns-2 c =
+    decides-no (λ h.
+    let at-first = c .before in
+    at-first .overlap .ensures .no-fails (c .if1 .left)
+    (rw (at-first .before .before .directions-of .ensures, at-first .before .directions-of2 .ensures) (h .along-x)))
+
+pub meet-spec : {M : Type 1} → statement M
+meet-spec =
+    tie.close
+    (tie.spec
+    directions-of-requires
+    directions-of-requires-2
+    overlap-requires
+    overlap-requires-2
+    returns
+    returns-2)

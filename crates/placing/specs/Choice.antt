@@ -1,0 +1,38 @@
+-- Document 01, "Good choice at h" and "First".
+-- Assumes nothing.
+use mathlib.Core.Path.{_≡_}
+use mathlib.Core.List.{List, _∷_}
+use mathlib.Core.Logic.{_≢_}
+use Prim.Native.Nat.{ℕ, _<_}
+use lib.ListN.{length, getD}
+use Rattle.placing.specs.declared.units.Place.{Place}
+use Rattle.placing.specs.Units.{siteAt}
+use Rattle.placing.specs.Corner.{Corner}
+use Rattle.placing.specs.Meet.{Meet}
+use Rattle.placing.specs.Crowd.{Crowded}
+
+-- The corner that a list of corners gives site number i.
+abbrev pub cornerAt : List ℕ → ℕ → ℕ
+cornerAt cs i = getD cs i 0
+
+-- A list of corners, one for each of n sites.
+pub record Corners (n : ℕ) (cs : List ℕ) : Type 0 where
+  pub one-each : length cs ≡ n
+  pub corner : (i : ℕ) → i < n → Corner (cornerAt cs i)
+
+-- "One corner for every site, none crowded at h, no two labels meeting at h."
+pub record Good (h : ℕ) (ps : List Place) (cs : List ℕ) : Type 0 where
+  pub corners : Corners (length ps) cs
+  pub uncrowded : (i : ℕ) → i < length ps → Crowded h ps i (cornerAt cs i) → ⊥
+  pub apart : (i j : ℕ) → i < length ps → j < length ps → i ≢ j
+      → Meet h 1 (siteAt ps i) (cornerAt cs i) (siteAt ps j) (cornerAt cs j) → ⊥
+
+-- The first list of corners comes before the second: it has the lower corner at the first site where they differ.
+pub data Before : List ℕ → List ℕ → Type 0 where
+  lower : {c e : ℕ} {cs es : List ℕ} → c < e → Before (c ∷ cs) (e ∷ es)
+  later : {c : ℕ} {cs es : List ℕ} → Before cs es → Before (c ∷ cs) (c ∷ es)
+
+-- "First means: lowest corner for the first site, then for the second, and so on, among good choices only."
+pub record First (h : ℕ) (ps : List Place) (cs : List ℕ) : Type 0 where
+  pub good : Good h ps cs
+  pub none-before : (es : List ℕ) → Good h ps es → Before es cs → ⊥

@@ -1,0 +1,4 @@
+// Square labels for sites: what document 01 rules of corners, meeting, crowding and sides. Nothing here knows names or text.
+pub mod corner;
+pub mod geometry;
+pub mod units;

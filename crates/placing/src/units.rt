@@ -1,0 +1,48 @@
+// Coordinates in units, sides in half units, and the one conversion between them.
+ghost use mathlib.Core.Path.{_≡_};
+ghost use Prim.Native.Nat.{_≤_};
+ghost use Rattle.placing.specs.Units.{halves};
+
+// A coordinate, or a distance between two, in units.
+pub struct Units(pub u32);
+
+// A side, or a distance, in half units.
+pub struct HalfUnits(pub u32);
+
+// Where a site lies: x grows to the right, y grows upwards.
+pub struct Place {
+    pub x: Units,
+    pub y: Units,
+}
+
+// The side of an answer: a whole number of half units, or free, where no side is too large.
+pub enum Side {
+    Number(HalfUnits),
+    Free,
+}
+
+// The limits of document 01, "Units and limits".
+pub struct Limits();
+
+impl Limits {
+    // The most sites of a plan.
+    pub const SITES: usize = 240;
+    // The greatest coordinate, in units.
+    pub const COORDINATE: u32 = 10_000;
+    // The least and the greatest side, in half units.
+    pub const LEAST_SIDE: u32 = 1;
+
+    pub const GREATEST_SIDE: u32 = 20_000;
+    // The side at which free is judged.
+    pub const FREE_SIDE: u32 = 20_001;
+}
+
+impl Units {
+    // The one conversion: a unit is two half units.
+    pub fn in_half_units(self) -> HalfUnits
+        requires { ⌜ self .0 ≤ 10000 ⌝ }
+        ensures { λ r. ⌜ r .0 ≡ halves (self .0) ⌝ }
+    {
+        HalfUnits(2 * self.0)
+    }
+}

@@ -3,6 +3,7 @@
 -- Assumes nothing.
 use mathlib.Core.Path.{_≡_}
 use Prim.Native.Nat.{ℕ, _+_, _*_, _≤_, _<_}
+use native.Mathlib.Omega.{arith}
 use Rattle.placing.specs.declared.units.Place.{Place}
 use Rattle.placing.specs.declared.corner.Direction.{Direction}
 use Rattle.placing.specs.declared.corner.Direction.the-variants.{Up, Down}
@@ -40,3 +41,11 @@ pub data Covers (p q : ℕ) (s : Place) (c : ℕ) (t : Point) : Type 0 where
   square : Inside p q (alongX c) (xOf s) (t .x) → Inside p q (alongY c) (yOf s) (t .y) → Covers p q s c t
   edge-y : AtSite (xOf s) (t .x) → Inside p q (alongY c) (yOf s) (t .y) → Covers p q s c t
   edge-x : Inside p q (alongX c) (xOf s) (t .x) → AtSite (yOf s) (t .y) → Covers p q s c t
+
+-- A site's coordinate of a units, in half units.
+abbrev pub fractionOf : ℕ → Fraction
+fractionOf a = record { plus = halves a; minus = 0; parts = 1; some-parts = omega arith }
+
+-- The point where a site stands.
+abbrev pub pointOf : Place → Point
+pointOf s = record { x = fractionOf (xOf s); y = fractionOf (yOf s) }

@@ -1,4 +1,8 @@
 // Square labels for sites: what document 01 rules of corners, meeting, crowding and sides. Nothing here knows names or text.
+pub mod units;
 pub mod corner;
 pub mod geometry;
-pub mod units;
+pub mod crowding;
+pub mod trial;
+
+

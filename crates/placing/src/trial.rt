@@ -1,0 +1,246 @@
+// A trial decides a corner of one site and carries on: a decided site closes the corners of others that its label meets, and
+// a site left with one corner is decided too. Four bytes a site say which corners are open, one byte which is decided; a byte
+// of the lent table marks a site whose decision has been carried out. Inside a trial the arrays are lent, since handing them
+// on by value costs more than all the tests.
+use crate::geometry::meet;
+use crate::units::HalfUnits;
+use crate::units::Place;
+use crate::units::Units;
+ghost use mathlib.Core.Path.{_≡_};
+ghost use Prim.Native.Nat.{ℕ, _≤_, _<_};
+ghost use lib.ListN.{length};
+ghost use Rattle.placing.specs.Corner.{Corner};
+ghost use Rattle.placing.specs.Labels.{labels};
+ghost use Rattle.placing.specs.Ways.{rowAt, LeftIs, Sizes, TakenCorner, ClosedCorner, CarriedThere, CarriedOut, FirstWaiting, Kept, Marked, CarriedOn, Tried};
+ghost use Rattle.placing.specs.Asks.{MayCarryTo, MayCarryOut, MayCarryOn, MayTry};
+
+// Which corners of a site are open: nothing, one, or more.
+pub enum Left {
+    Nothing,
+    One(u8),
+    More,
+}
+
+// Which corners are open and which is decided, for every site.
+pub struct State {
+    pub ways: [u8; 960],
+    pub decided: [u8; 240],
+}
+
+// A state, and whether it was reached.
+pub struct Attempt {
+    pub ok: bool,
+    pub state: State,
+}
+
+// How many of a site's four corners are open, by its four bytes.
+fn left_of(a: u8, b: u8, c: u8, d: u8) -> Left
+    ensures { λ r. ⌜ LeftIs r (rowAt a b c d) ⌝ }
+{
+    if a == 1 {
+        if b == 1 {
+            return Left::More;
+        }
+        if c == 1 {
+            return Left::More;
+        }
+        if d == 1 {
+            return Left::More;
+        }
+        return Left::One(1);
+    }
+    if b == 1 {
+        if c == 1 {
+            return Left::More;
+        }
+        if d == 1 {
+            return Left::More;
+        }
+        return Left::One(2);
+    }
+    if c == 1 {
+        if d == 1 {
+            return Left::More;
+        }
+        return Left::One(3);
+    }
+    if d == 1 {
+        return Left::One(4);
+    }
+    Left::Nothing
+}
+
+// Closes corner `c` of site `j`, and decides the site where one corner is left. No where none is.
+fn close_corner(ways: &mut [u8; 960], decided: &mut [u8; 240], j: usize, c: u8) -> bool
+    requires { ⌜ Sizes (now ways) (now decided) × (j < 240) × Corner c ⌝ }
+    ensures { λ r. ⌜ ClosedCorner (now (ways .entry)) (now (decided .entry)) j c r (now (ways .exit)) (now (decided .exit)) ⌝ }
+{
+    let at = 4 * j;
+    let e = at + (c as usize - 1);
+    ways[e] = 0;
+    let left = left_of(ways[at], ways[at + 1], ways[at + 2], ways[at + 3]);
+    match left {
+        Left::Nothing => false,
+        Left::One(k) => {
+            decided[j] = k;
+            true
+        }
+        Left::More => true,
+    }
+}
+
+// Carries the decision `c` of site `k` to site `j`: only its corner `c` can meet an uncrowded label at corner `c`.
+fn carry_to(
+    xs: &[u32; 240],
+    ys: &[u32; 240],
+    side: HalfUnits,
+    ways: &mut [u8; 960],
+    decided: &mut [u8; 240],
+    k: usize,
+    c: u8,
+    j: usize,
+) -> bool
+    requires { ⌜ MayCarryTo (now xs) (now ys) side (now ways) (now decided) k c j ⌝ }
+    ensures { λ r. ⌜ ((n : ℕ) → CarriedThere (labels (side .0) n (now (xs .entry)) (now (ys .entry)))
+      (now (ways .entry)) (now (decided .entry)) k j r (now (ways .exit)) (now (decided .exit))) ⌝ }
+{
+    let e = 4 * j + (c as usize - 1);
+    if ways[e] == 1 {
+        let s = Place {
+            x: Units(xs[k]),
+            y: Units(ys[k]),
+        };
+        let t = Place {
+            x: Units(xs[j]),
+            y: Units(ys[j]),
+        };
+        if meet(side, s, c, t, c) {
+            return close_corner(ways, decided, j, c);
+        }
+    }
+    true
+}
+
+// Carries the decision of site `k` to all others. No where one is left with no corner.
+fn carry_out(
+    xs: &[u32; 240],
+    ys: &[u32; 240],
+    n: usize,
+    side: HalfUnits,
+    ways: &mut [u8; 960],
+    decided: &mut [u8; 240],
+    k: usize,
+) -> bool
+    requires { ⌜ MayCarryOut n (now xs) (now ys) side (now ways) (now decided) k ⌝ }
+    ensures { λ r. ⌜ CarriedOut (labels (side .0) n (now (xs .entry)) (now (ys .entry)))
+      (now (ways .entry)) (now (decided .entry)) k r (now (ways .exit)) (now (decided .exit)) ⌝ }
+{
+    let c = decided[k];
+    for j in 0..n {
+        if j != k {
+            if !carry_to(xs, ys, side, ways, decided, k, c, j) {
+                return false;
+            }
+        }
+    }
+    true
+}
+
+// The first decided site that is not marked, or `n`.
+fn first_waiting(decided: &[u8; 240], marks: &[u8], n: usize) -> usize
+    requires { ⌜ (length (now decided) ≡ 240) × (n ≤ 240) × (n ≤ length (now marks)) ⌝ }
+    ensures { λ r. ⌜ FirstWaiting (now (decided .entry)) (now (marks .entry)) n r ⌝ }
+{
+    let mut k = 0;
+    while k < n {
+        if marks[k] != 1 {
+            if decided[k] != 0 {
+                return k;
+            }
+        }
+        k += 1;
+    }
+    k
+}
+
+// Carries out every decision that is not marked, and marks it. No where a site is left with no corner.
+fn carry_on(
+    xs: &[u32; 240],
+    ys: &[u32; 240],
+    n: usize,
+    side: HalfUnits,
+    ways: &mut [u8; 960],
+    decided: &mut [u8; 240],
+    marks: &mut [u8],
+) -> bool
+    requires { ⌜ MayCarryOn n (now xs) (now ys) side (now ways) (now decided) (now marks) ⌝ }
+    ensures carried { λ r. ⌜ CarriedOn (labels (side .0) n (now (xs .entry)) (now (ys .entry)))
+      (now (ways .entry)) (now (decided .entry)) r (now (ways .exit)) (now (decided .exit)) ⌝ }
+    ensures kept { λ r. ⌜ Kept n (now (marks .entry)) (now (marks .exit)) ⌝ }
+{
+    loop {
+        let k = first_waiting(decided, marks, n);
+        if k == n {
+            return true;
+        }
+        marks[k] = 1;
+        if !carry_out(xs, ys, n, side, ways, decided, k) {
+            return false;
+        }
+    }
+}
+
+// Marks the decided sites.
+fn mark(decided: &[u8; 240], marks: &mut [u8], n: usize)
+    requires { ⌜ (length (now decided) ≡ 240) × (n ≤ 240) × (n ≤ length (now marks)) ⌝ }
+    ensures marked { λ r. ⌜ Marked (now (decided .entry)) n (now (marks .exit)) ⌝ }
+    ensures kept { λ r. ⌜ Kept n (now (marks .entry)) (now (marks .exit)) ⌝ }
+{
+    for j in 0..n {
+        if decided[j] == 0 {
+            marks[j] = 0;
+        } else {
+            marks[j] = 1;
+        }
+    }
+}
+
+// Decides corner `c` of site `i`, which closes the site's other corners.
+fn take_corner(ways: &mut [u8; 960], decided: &mut [u8; 240], i: usize, c: u8)
+    requires { ⌜ Sizes (now ways) (now decided) × (i < 240) × Corner c ⌝ }
+    ensures { λ r. ⌜ TakenCorner (now (ways .entry)) (now (decided .entry)) i c (now (ways .exit)) (now (decided .exit)) ⌝ }
+{
+    let at = 4 * i;
+    ways[at] = 0;
+    ways[at + 1] = 0;
+    ways[at + 2] = 0;
+    ways[at + 3] = 0;
+    let e = at + (c as usize - 1);
+    ways[e] = 1;
+    decided[i] = c;
+}
+
+// Tries corner `c` of site `i` on a copy of the state.
+pub fn try_corner(
+    xs: &[u32; 240],
+    ys: &[u32; 240],
+    n: usize,
+    side: HalfUnits,
+    state: State,
+    marks: &mut [u8],
+    i: usize,
+    c: u8,
+) -> Attempt
+    requires { ⌜ MayTry n (now xs) (now ys) side (state .ways) (state .decided) (now marks) i c ⌝ }
+    ensures tried { λ r. ⌜ Tried (labels (side .0) n (now (xs .entry)) (now (ys .entry)))
+      (state .ways) (state .decided) i c (r .ok) (r .state .ways) (r .state .decided) ⌝ }
+    ensures kept { λ r. ⌜ Kept n (now (marks .entry)) (now (marks .exit)) ⌝ }
+{
+    let mut ways = state.ways;
+    let mut decided = state.decided;
+    mark(&decided, marks, n);
+    take_corner(&mut ways, &mut decided, i, c);
+    let ok = carry_on(xs, ys, n, side, &mut ways, &mut decided, marks);
+    let reached = State { ways, decided };
+    Attempt { ok, state: reached }
+}

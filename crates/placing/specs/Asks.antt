@@ -6,10 +6,12 @@ use mathlib.Core.Logic.{_≢_}
 use Prim.Native.Nat.{ℕ, _≤_, _<_}
 use lib.ListN.{length, getD}
 use Rattle.placing.specs.declared.units.HalfUnits.{HalfUnits}
+use Rattle.placing.specs.declared.crowding.Crowding.{Crowding}
 use Rattle.placing.specs.Units.{OnPlan, Judged}
 use Rattle.placing.specs.Corner.{Corner}
 use Rattle.placing.specs.Choice.{cornerAt}
-use Rattle.placing.specs.Sites.{Held, placeAt}
+use Rattle.placing.specs.Sites.{Held, placeAt, sitesOf}
+use Rattle.placing.specs.Crowding.{CrowdingIs}
 use Rattle.placing.specs.State.{Underway, Closed, Walked}
 use Rattle.placing.specs.Labels.{labels}
 use Rattle.placing.specs.Ways.{rowOf, Sizes, Settled, AllSettled}
@@ -61,3 +63,9 @@ pub record MayWalk (n : ℕ) (xs ys : List ℕ) (side : HalfUnits) (ways decided
   pub sizes : Sizes ways decided
   pub room : n ≤ length marks
   pub walked : Walked (labels (side .0) n xs ys) i (rowOf ways) (cornerAt decided)
+
+-- Choosing at a side.
+pub record MayChoose (n : ℕ) (xs ys : List ℕ) (side : HalfUnits) (crowding : Crowding) (marks : List ℕ) : Type 0 where
+  pub held : Held n xs ys side
+  pub room : n ≤ length marks
+  pub crowding-is : CrowdingIs (sitesOf n xs ys) n crowding

@@ -25,3 +25,10 @@ pub mod Decided
 pub mod Labels
 pub mod Ways
 pub mod Asks
+pub mod Marks
+pub mod Onward
+pub mod Fresh
+pub mod Walking
+pub mod Chosen
+pub mod Placed
+pub mod Bisect

@@ -4,5 +4,7 @@ pub mod corner;
 pub mod geometry;
 pub mod crowding;
 pub mod trial;
-
-
+pub mod fresh;
+pub mod choice;
+pub mod side;
+pub mod place;

@@ -1,0 +1,42 @@
+use Rattle.placing.specs.Walk.{walk-starts}
+use Rattle.placing.specs.Chosen.{walked-choice}
+use borrow.Author.Needs.{needs}
+use Rattle.placing.proofs.choice.choose.Statement.{statement}
+use Rattle.placing.proofs.choice.choose.Tie as tie
+use Rattle.placing.proofs.choice.choose.Reads as reads
+use Rattle.placing.proofs.choice.choose.Lts as lts
+use Rattle.placing.proofs.choice.walk.Reads as walk-reads
+use Rattle.placing.proofs.fresh.fresh_state.Reads as fresh-state-reads
+
+-- src/choice.rt:94:40
+fresh-state-requires : tie.Need-fresh-state-requires
+fresh-state-requires c κs = search needs
+
+-- src/choice.rt:94:9
+walk-requires : tie.Need-walk-requires
+walk-requires c κs =
+    let at-fresh = c .before in
+    let at-start = at-fresh .before .before in
+    let may = at-start .pre in
+    record {
+      held = may .held;
+      sizes = at-fresh .fresh-state .ensures .sizes;
+      room = may .room;
+      walked = walk-starts (at-fresh .fresh-state .ensures .fresh _ _ (may .held .judged) (may .crowding-is));
+    }
+
+-- src/choice.rt:82:1
+same-length : tie.Need-same-length
+same-length c = search needs
+
+-- src/choice.rt:82:1
+returns : tie.Need-returns
+returns c =
+    let at-walk = c .before .before .before .before in
+    let at-start = at-walk .before .before .before .before in (
+      walked-choice _ _ _ _ _ _ _ (at-start .pre .held .few) (at-walk .walk .ensures .0),
+      at-walk .walk .ensures .1,
+    )
+
+pub choose-spec : {M : Type 1} → statement M
+choose-spec = tie.close (tie.spec fresh-state-requires walk-requires same-length returns)

@@ -1,0 +1,118 @@
+use Prim.Native.Nat.{_≤_, _-_}
+use mathlib.Core.Logic.{⊎-elim}
+use native.Mathlib.Omega.{arith}
+use borrow.Author.Needs.{needs}
+use borrow.Author.Tests.{not-true, not-false}
+use Rattle.placing.specs.Choice.{cornerAt}
+use Rattle.placing.specs.State.{Walked}
+use Rattle.placing.specs.Walk.{walk-decided-add-one}
+use Rattle.placing.specs.Labels.{labels}
+use Rattle.placing.specs.Ways.{Kept, Sizes, rowOf}
+use Rattle.placing.specs.Marks.{kept-same, kept-twice}
+use Rattle.placing.specs.Walking.{walk-over, walked-all}
+use Rattle.placing.proofs.choice.walk.Statement.{statement}
+use Rattle.placing.proofs.choice.walk.Tie as tie
+use Rattle.placing.proofs.choice.walk.Reads as reads
+use Rattle.placing.proofs.choice.walk.Lts as lts
+use Rattle.placing.proofs.choice.choose_corner.Reads as choose-corner-reads
+
+abbrev Inv-loop : tie.InvT-loop
+Inv-loop xs ys n side marks₀ state₀ i₀ marks state i =
+    (i ≤ n) × Kept n marks₀ marks × Sizes (state .ways) (state .decided)
+    × Walked (labels (side .0) n xs ys) i (rowOf (state .ways)) (cornerAt (state .decided))
+
+abbrev μ-loop : tie.MeasureT-loop
+μ-loop xs ys n side marks₀ state₀ i₀ marks state i = n - i
+
+-- src/choice.rt:68:5
+loop-holds : tie.Need-loop-holds Inv-loop μ-loop
+loop-holds c = (search needs, kept-same, c .before .pre .sizes, c .before .pre .walked)
+
+-- src/choice.rt:69:12
+element-copy-out-if1 : tie.Need-element-copy-out-if1 Inv-loop μ-loop
+element-copy-out-if1 c = search needs
+
+-- src/choice.rt:70:17
+choose-corner-requires : tie.Need-choose-corner-requires Inv-loop μ-loop
+choose-corner-requires c κs =
+    let at-loop = c .before .before .before .before in
+    let may = at-loop .before .before .pre in (
+      record {
+        held = may .held;
+        sizes = at-loop .loop .inv .2;
+        room = rw (at-loop .loop .inv .1 .size) (may .room);
+        walked = at-loop .loop .inv .3;
+      },
+      omega arith,
+      c .before .if1 .taken,
+    )
+
+-- src/choice.rt:72:17
+same-length : tie.Need-same-length Inv-loop μ-loop
+same-length c = search needs
+
+-- src/choice.rt:72:17
+returns : tie.Need-returns Inv-loop μ-loop
+returns c =
+    let at-choose = c .before .before .before .before in
+    let at-loop = at-choose .before .before .before .before .before in (
+      walk-over _ (not-true _ (c .if2 .taken)) (at-choose .choose-corner .ensures .0),
+      kept-twice (at-loop .loop .inv .1) (at-choose .choose-corner .ensures .1),
+    )
+
+-- src/choice.rt:68:9
+add-i : tie.Need-add-i Inv-loop μ-loop
+add-i c = search needs
+
+-- src/choice.rt:68:5
+loop-less : tie.Need-loop-less Inv-loop μ-loop
+loop-less c = search needs
+
+-- src/choice.rt:68:5
+loop-again : tie.Need-loop-again Inv-loop μ-loop
+loop-again c =
+    let at-loop = c .before .before .before in
+    let before = at-loop .loop .inv in
+    ⊎-elim
+    (λ w. rw (w .8, w .9) ((
+      omega arith,
+      kept-twice (before .1) (w .2 .ensures .1),
+      w .2 .ensures .0 .sizes,
+      w .2 .ensures .0 .walked (not-false _ (w .6 .left)),
+    )))
+    (λ w. rw (w .1, w .2) ((
+      omega arith,
+      before .1,
+      before .2,
+      walk-decided-add-one (before .3) (omega arith) (w .0 .left),
+    )))
+    (c .if1 .came)
+
+-- src/choice.rt:54:1
+same-length-2 : tie.Need-same-length-2 Inv-loop μ-loop
+same-length-2 c = search needs
+
+-- src/choice.rt:54:1
+returns-2 : tie.Need-returns-2 Inv-loop μ-loop
+returns-2 c =
+    let at-loop = c .before in (
+      walked-all (omega arith) (at-loop .loop .inv .2) (at-loop .loop .inv .3),
+      at-loop .loop .inv .1,
+    )
+
+pub walk-spec : {M : Type 1} → statement M
+walk-spec =
+    tie.close
+    (tie.spec
+    Inv-loop
+    μ-loop
+    loop-holds
+    element-copy-out-if1
+    choose-corner-requires
+    same-length
+    returns
+    add-i
+    loop-less
+    loop-again
+    same-length-2
+    returns-2)

@@ -1,0 +1,71 @@
+use mathlib.Core.Path.{_≡_, refl, ap, _∙_}
+use mathlib.Core.List.{List, _++_}
+use Prim.Native.Nat.{ℕ, _≤_, _-_}
+use native.Mathlib.Omega.{arith}
+use lib.ListN.{length, getD, set, drop, replicate, length-set}
+use borrow.Author.Needs.{needs}
+use Rattle.placing.proofs.Copied.{copied, copied-more, zeros, length-zeros, drop-zeros}
+use Rattle.placing.proofs.side.first_corners.Statement.{statement}
+use Rattle.placing.proofs.side.first_corners.Tie as tie
+use Rattle.placing.proofs.side.first_corners.Reads as reads
+use Rattle.placing.proofs.side.first_corners.Lts as lts
+
+abbrev Inv-loop : tie.InvT-loop
+Inv-loop n corners first₀ i₀ first i = (i ≤ n) × (first ≡ copied i corners zeros) × (length first ≡ 240)
+
+abbrev μ-loop : tie.MeasureT-loop
+μ-loop n corners first₀ i₀ first i = n - i
+
+-- src/side.rt:29:5
+loop-holds : tie.Need-loop-holds Inv-loop μ-loop
+unfolding zeros
+loop-holds c = (search needs, refl, refl)
+
+-- src/side.rt:30:20
+array-read-first : tie.Need-array-read-first Inv-loop μ-loop
+array-read-first c = search needs
+
+-- src/side.rt:30:9
+array-write-first : tie.Need-array-write-first Inv-loop μ-loop
+array-write-first c = search needs
+
+-- src/side.rt:29:9
+add-i : tie.Need-add-i Inv-loop μ-loop
+add-i c = omega arith
+
+-- src/side.rt:29:5
+loop-less : tie.Need-loop-less Inv-loop μ-loop
+loop-less c = omega arith
+
+-- src/side.rt:29:5
+loop-again : tie.Need-loop-again Inv-loop μ-loop
+loop-again c =
+    let at-loop = c .before in
+    let i = at-loop .loop .i in
+    let corners = at-loop .before .args .t1 in
+    let size : length corners ≡ 240 = search needs in (
+      omega arith,
+      ap (λ (l : List ℕ). set l i (getD corners i 0)) (at-loop .loop .inv .1)
+          ∙ copied-more i corners zeros (omega arith) (omega (arith, length-zeros)),
+      simp length-set (at-loop .loop .inv .2),
+    )
+
+-- src/side.rt:24:1
+returns : tie.Need-returns Inv-loop μ-loop
+returns c =
+    let end : c .before .loop .i ≡ c .before .before .args .n = omega arith in
+    rw (← drop-zeros (c .before .before .args .n)) (rw end at (c .before .loop .inv .1))
+
+pub first-corners-spec : {M : Type 1} → statement M
+first-corners-spec =
+    tie.close
+    (tie.spec
+    Inv-loop
+    μ-loop
+    loop-holds
+    array-read-first
+    array-write-first
+    add-i
+    loop-less
+    loop-again
+    returns)

@@ -1,0 +1,101 @@
+// Choosing at a side: the walk in list order, in which each undecided site takes the lowest open corner whose trial does not
+// fail. What it yields is the first good choice.
+use crate::crowding::Crowding;
+use crate::fresh::fresh_state;
+use crate::trial::try_corner;
+use crate::trial::Attempt;
+use crate::trial::State;
+use crate::units::HalfUnits;
+ghost use mathlib.Core.Path.{_≡_};
+ghost use Prim.Native.Nat.{_+_, _<_};
+ghost use Rattle.placing.specs.Choice.{cornerAt};
+ghost use Rattle.placing.specs.Answer.{firstGood};
+ghost use Rattle.placing.specs.Sites.{sitesOf};
+ghost use Rattle.placing.specs.Labels.{labels};
+ghost use Rattle.placing.specs.Ways.{WalkedTo, Kept};
+ghost use Rattle.placing.specs.Asks.{MayWalk, MayChoose};
+ghost use Rattle.placing.specs.Chosen.{choiceIn};
+
+// The corners of a good choice, where there is one.
+pub struct Chosen {
+    pub ok: bool,
+    pub corners: [u8; 240],
+}
+
+// Decides site `i` by its lowest open corner whose trial does not fail. No where all fail.
+fn choose_corner(
+    xs: &[u32; 240],
+    ys: &[u32; 240],
+    n: usize,
+    side: HalfUnits,
+    state: State,
+    marks: &mut [u8],
+    i: usize,
+) -> Attempt
+    requires { ⌜ MayWalk n (now xs) (now ys) side (state .ways) (state .decided) (now marks) i
+      × (i < n) × (cornerAt (state .decided) i ≡ 0) ⌝ }
+    ensures walked { λ r. ⌜ WalkedTo (labels (side .0) n (now (xs .entry)) (now (ys .entry))) (i + 1)
+      (r .ok) (r .state .ways) (r .state .decided) ⌝ }
+    ensures kept { λ r. ⌜ Kept n (now (marks .entry)) (now (marks .exit)) ⌝ }
+{
+    for e in 0..4 {
+        let at = 4 * i + e;
+        if state.ways[at] == 1 {
+            let tried = try_corner(xs, ys, n, side, state, marks, i, (e + 1) as u8);
+            if tried.ok {
+                return tried;
+            }
+        }
+    }
+    Attempt { ok: false, state }
+}
+
+// Decides all sites in list order. No where there is no good choice.
+fn walk(
+    xs: &[u32; 240],
+    ys: &[u32; 240],
+    n: usize,
+    side: HalfUnits,
+    start: State,
+    marks: &mut [u8],
+) -> Attempt
+    requires { ⌜ MayWalk n (now xs) (now ys) side (start .ways) (start .decided) (now marks) 0 ⌝ }
+    ensures walked { λ r. ⌜ WalkedTo (labels (side .0) n (now (xs .entry)) (now (ys .entry))) n
+      (r .ok) (r .state .ways) (r .state .decided) ⌝ }
+    ensures kept { λ r. ⌜ Kept n (now (marks .entry)) (now (marks .exit)) ⌝ }
+{
+    let mut state = start;
+    for i in 0..n {
+        if state.decided[i] == 0 {
+            let next = choose_corner(xs, ys, n, side, state, marks, i);
+            if !next.ok {
+                return next;
+            }
+            let reached = next.state;
+            state = reached;
+        }
+    }
+    Attempt { ok: true, state }
+}
+
+// The first good choice at a side, or none.
+pub fn choose(
+    xs: &[u32; 240],
+    ys: &[u32; 240],
+    n: usize,
+    crowding: Crowding,
+    side: HalfUnits,
+    marks: &mut [u8],
+) -> Chosen
+    requires { ⌜ MayChoose n (now xs) (now ys) side crowding (now marks) ⌝ }
+    ensures first { λ r. ⌜ choiceIn n r ≡ firstGood (side .0) (sitesOf n (now (xs .entry)) (now (ys .entry))) ⌝ }
+    ensures kept { λ r. ⌜ Kept n (now (marks .entry)) (now (marks .exit)) ⌝ }
+{
+    let walked = walk(xs, ys, n, side, fresh_state(crowding, n, side), marks);
+    let state = walked.state;
+    let corners = state.decided;
+    Chosen {
+        ok: walked.ok,
+        corners,
+    }
+}

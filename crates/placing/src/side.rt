@@ -1,0 +1,80 @@
+// Finding the side: 20,001 first, which is free, else the greatest side that has a good choice, by bisection.
+use crate::choice::choose;
+use crate::crowding::crowding_of;
+use crate::crowding::Crowding;
+use crate::units::HalfUnits;
+use crate::units::Limits;
+use crate::units::Side;
+ghost use mathlib.Core.Path.{_≡_};
+ghost use mathlib.Core.List.{_++_};
+ghost use Prim.Native.Nat.{_-_, _≤_};
+ghost use lib.ListN.{take, replicate};
+ghost use Rattle.placing.specs.Answer.{answerOf};
+ghost use Rattle.placing.specs.Sites.{sitesOf};
+ghost use Rattle.placing.specs.Ways.{Kept};
+ghost use Rattle.placing.specs.Placed.{placedAs, MayFind, MayBisect};
+
+// The placed answer: the side, and the corner of each site in list order, 0 past the last.
+pub struct Placed {
+    pub side: Side,
+    pub corners: [u8; 240],
+}
+
+// The corners of the first `n` sites, 0 past them.
+fn first_corners(corners: [u8; 240], n: usize) -> [u8; 240]
+    requires { ⌜ n ≤ 240 ⌝ }
+    ensures { λ r. ⌜ r ≡ take n corners ++ replicate (240 - n) 0 ⌝ }
+{
+    let mut first = [0u8; 240];
+    for i in 0..n {
+        first[i] = corners[i];
+    }
+    first
+}
+
+// The greatest side that has a good choice, where 20,001 has none. At 1 every choice is good, and corner 1 everywhere is the
+// first.
+fn bisect(xs: &[u32; 240], ys: &[u32; 240], n: usize, crowding: Crowding, marks: &mut [u8]) -> Placed
+    requires { ⌜ MayBisect n (now xs) (now ys) crowding (now marks) ⌝ }
+    ensures answer { λ r. ⌜ r ≡ placedAs (answerOf (sitesOf n (now (xs .entry)) (now (ys .entry)))) ⌝ }
+    ensures kept { λ r. ⌜ Kept n (now (marks .entry)) (now (marks .exit)) ⌝ }
+{
+    let mut low = Limits::LEAST_SIDE;
+    let mut high = Limits::FREE_SIDE;
+    let mut corners = [1u8; 240];
+    while low + 1 < high {
+        let middle = low + (high - low) / 2;
+        let chosen = choose(xs, ys, n, crowding, HalfUnits(middle), marks);
+        if chosen.ok {
+            let better = chosen.corners;
+            corners = better;
+            low = middle;
+        } else {
+            high = middle;
+        }
+    }
+    let first = first_corners(corners, n);
+    Placed {
+        side: Side::Number(HalfUnits(low)),
+        corners: first,
+    }
+}
+
+// The answer for the first `n` sites at these coordinates.
+pub fn find_answer(xs: &[u32; 240], ys: &[u32; 240], n: usize, marks: &mut [u8]) -> Placed
+    requires { ⌜ MayFind n (now xs) (now ys) (now marks) ⌝ }
+    ensures answer { λ r. ⌜ r ≡ placedAs (answerOf (sitesOf n (now (xs .entry)) (now (ys .entry)))) ⌝ }
+    ensures kept { λ r. ⌜ Kept n (now (marks .entry)) (now (marks .exit)) ⌝ }
+{
+    let crowding = crowding_of(xs, ys, n);
+    let chosen = choose(xs, ys, n, crowding, HalfUnits(Limits::FREE_SIDE), marks);
+    if chosen.ok {
+        let corners = chosen.corners;
+        let first = first_corners(corners, n);
+        return Placed {
+            side: Side::Free,
+            corners: first,
+        };
+    }
+    bisect(xs, ys, n, crowding, marks)
+}

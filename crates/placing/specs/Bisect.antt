@@ -12,6 +12,7 @@ use lib.Seq.{length-take-le}
 use Rattle.placing.specs.declared.choice.Chosen.{Chosen}
 use Rattle.placing.specs.declared.side.Placed.{Placed}
 use Rattle.placing.specs.declared.units.Place.{Place}
+use Rattle.placing.specs.declared.units.Side.{Side}
 use Rattle.placing.specs.declared.units.Side.the-variants.{Number, Free}
 use Rattle.placing.specs.Units.{Distinct, freeSide, greatestSide}
 use Rattle.placing.specs.Corner.{Corner}
@@ -63,7 +64,7 @@ between-starts {ps} {n} distinct count few not-free =
     }
 
 module _ {ps : List Place} {n low high : ℕ} {corners : List ℕ} (between : Between ps n low high corners)
-  (middle : ℕ) (above : low < middle) (below : middle < high) (chosen : Chosen) (is : choiceIn n chosen ≡ firstGood middle ps) where
+    (middle : ℕ) (above : low < middle) (below : middle < high) (chosen : Chosen) (is : choiceIn n chosen ≡ firstGood middle ps) where
   -- The middle has a good choice: it is the next lower end.
   pub between-up : chosen .ok ≡ true → Between ps n middle high (chosen .corners)
   between-up ok =
@@ -87,24 +88,33 @@ module _ {ps : List Place} {n low high : ℕ} {corners : List ℕ} (between : Be
       }
 
 -- The record of an answer whose n corners are these.
-placed-corners : {side : _} (n : ℕ) (corners : List ℕ) → n ≤ length corners
-    → _≡_ {A = Placed} (record { side = side; corners = take n corners ++ replicate (240 - n) 0 }) (placedAs (record { side = side; corners = take n corners }))
-placed-corners n corners few = rw (length-take-le n corners few)
+placed-corners : {side : Side} {ps : List Place} {h : ℕ} (n : ℕ) (corners : List ℕ) → length ps ≡ n → First h ps (take n corners)
+    → _≡_ {A = Placed} (record { side = side; corners = take n corners ++ replicate (240 - n) 0 })
+    (placedAs (record { side = side; corners = take n corners }))
+placed-corners n corners count first = rw (first .good .corners .one-each, count)
 
 -- Where the ends are one apart, the lower one is the answer.
-pub between-ends : {ps : List Place} {n low high : ℕ} {corners : List ℕ} → Distinct ps → n ≤ length corners → Between ps n low high corners → high ≤ low + 1
-    → _≡_ {A = Placed} (record { side = Number (record { 0 = low }); corners = take n corners ++ replicate (240 - n) 0 }) (placedAs (answerOf ps))
-between-ends {ps} {n} {low} {high} {corners} distinct few between end =
-    placed-corners n corners few
+pub between-ends : {ps : List Place} {n low high : ℕ} {corners : List ℕ} → Distinct ps → length ps ≡ n
+    → Between ps n low high corners → high ≤ low + 1
+    → _≡_ {A = Placed} (record { side = Number (record { 0 = low }); corners = take n corners ++ replicate (240 - n) 0 })
+    (placedAs (answerOf ps))
+between-ends {ps} {n} {low} {high} {corners} distinct count between end =
+    placed-corners n corners count (between .first)
     ∙ ap placedAs (sym (answer-found distinct (between .least) (omega (arith, between .most, between .apart)) (between .first) next))
   where
     next : (es : List ℕ) → Good (suc low) ps es → ⊥
     next = let last : high ≡ suc low = omega (arith, between .apart) in rw last at (between .no-good)
 
 -- Where 20,001 has a good choice, the answer is free.
-pub free-placed : {ps : List Place} {n : ℕ} (chosen : Chosen) → Distinct ps → n ≤ length (chosen .corners) → choiceIn n chosen ≡ firstGood freeSide ps → chosen .ok ≡ true
+pub free-placed : {ps : List Place} (n : ℕ) (chosen : Chosen) → Distinct ps → length ps ≡ n
+    → choiceIn n chosen ≡ firstGood freeSide ps → chosen .ok ≡ true
     → _≡_ {A = Placed} (record { side = Free; corners = take n (chosen .corners) ++ replicate (240 - n) 0 }) (placedAs (answerOf ps))
-free-placed {ps} {n} chosen distinct few is ok =
-    placed-corners n (chosen .corners) few
-    ∙ ap placedAs (sym (answer-free distinct
-    (firstGood-some (sym is ∙ ap (λ (b : Bool). whereYes b (take n (chosen .corners))) ok))))
+free-placed {ps} n chosen distinct count is ok =
+    let first : First freeSide ps (take n (chosen .corners)) =
+    firstGood-some (sym is ∙ ap (λ (b : Bool). whereYes b (take n (chosen .corners))) ok) in
+    placed-corners n (chosen .corners) count first ∙ ap placedAs (sym (answer-free distinct first))
+
+-- Where it has none, free is out.
+pub not-free : (ps : List Place) (n : ℕ) (chosen : Chosen) → choiceIn n chosen ≡ firstGood freeSide ps → chosen .ok ≡ false
+    → firstGood freeSide ps ≡ none
+not-free ps n chosen is failed = sym is ∙ ap (λ (b : Bool). whereYes b (take n (chosen .corners))) failed

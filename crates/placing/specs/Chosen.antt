@@ -30,7 +30,7 @@ choiceIn n r = whereYes (r .ok) (take n (r .corners))
 
 -- At the end of a walk the decisions of the n sites are the first good choice.
 module _ (h n : ℕ) (xs ys ways decided : List ℕ) (few : n ≤ length decided)
-  (walked : Walked (labels h n xs ys) n (rowOf ways) (cornerAt decided)) where
+    (walked : Walked (labels h n xs ys) n (rowOf ways) (cornerAt decided)) where
   taken : length (take n decided) ≡ n
   taken = length-take-le n decided few
 

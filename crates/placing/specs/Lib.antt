@@ -25,6 +25,7 @@ pub mod Decided
 pub mod Labels
 pub mod Ways
 pub mod Asks
+pub mod Carry
 pub mod Marks
 pub mod Onward
 pub mod Fresh

@@ -1,19 +1,19 @@
 -- The lent table in which a trial marks the sites whose decisions have been carried out: what looking for a site that waits and
 -- marking the decided sites have done by the time they come to a site, and how many sites have no mark yet.
 -- Assumes nothing.
-use mathlib.Core.Path.{_≡_, refl, sym, _∙_}
+use mathlib.Core.Path.{_≡_, refl, sym, ap, _∙_}
 use mathlib.Core.List.{List}
 use mathlib.Core.Logic.{_≢_}
 use mathlib.Core.Bool.{cond}
-use Prim.Native.Nat.{ℕ, zero, suc, _+_, _≤_, _<_}
+use Prim.Native.Nat.{ℕ, zero, suc, _+_, _-_, _≤_, _<_}
 use native.Mathlib.Nat.{not-suc-le-zero}
 use native.Mathlib.Decide.{ℕ-discrete}
 use native.Mathlib.Omega.{arith}
 use borrow.Author.Tests.{ne-eqb}
 use borrow.Author.Count.{below-more}
 use lib.Dec.{eqb}
-use lib.ListN.{length, getD, set, length-set}
-use lib.Seq.{getD-set-same, getD-set-other, drop-set-lt}
+use lib.ListN.{length, getD, set, drop, length-set}
+use lib.Seq.{getD-set-same, getD-set-other, drop-set-lt, drop-drop}
 use Rattle.placing.specs.Choice.{cornerAt}
 use Rattle.placing.specs.Ways.{FirstWaiting, Kept, Marked}
 
@@ -70,6 +70,13 @@ kept-set {n} {k} {table} {marks} v h kept =
 -- What is kept twice is kept.
 pub kept-twice : {n : ℕ} {table marks later : List ℕ} → Kept n table marks → Kept n marks later → Kept n table later
 kept-twice one other = record { size = other .size ∙ one .size; rest = other .rest ∙ one .rest }
+
+-- A table that is kept from n on is kept from m on, further up.
+pub kept-further : {n : ℕ} {table later : List ℕ} (m : ℕ) → n ≤ m → Kept n table later → drop m later ≡ drop m table
+kept-further {n} {table} {later} m h kept =
+    let split : n + (m - n) ≡ m = omega arith in
+    ap (λ (k : ℕ). drop k later) (sym split) ∙ sym (drop-drop (m - n) n later) ∙ ap (drop (m - n)) (kept .rest)
+    ∙ drop-drop (m - n) n table ∙ ap (λ (k : ℕ). drop k table) split
 
 -- Before the first site none waits.
 pub none-waits-start : {decided marks : List ℕ} → NoneWaits decided marks 0

@@ -49,3 +49,15 @@ pub record Held (n : ℕ) (xs ys : List ℕ) (side : HalfUnits) : Type 0 where
   pub x-range : (i : ℕ) → i < n → getD xs i 0 ≤ greatestCoordinate
   pub y-range : (i : ℕ) → i < n → getD ys i 0 ≤ greatestCoordinate
   pub judged : side .0 ≤ freeSide
+
+-- The same at another side.
+pub held-at : {n : ℕ} {xs ys : List ℕ} {side : HalfUnits} (other : HalfUnits) → other .0 ≤ freeSide → Held n xs ys side → Held n xs ys other
+held-at other judged held =
+    record {
+      few = held .few;
+      x-size = held .x-size;
+      y-size = held .y-size;
+      x-range = held .x-range;
+      y-range = held .y-range;
+      judged = judged;
+    }

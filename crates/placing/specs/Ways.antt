@@ -1,14 +1,17 @@
 -- The state of a search as a trial holds it: 960 bytes, four for each site, 1 where the corner is open, and 240 bytes with the
 -- decided corners, 0 for none. What one step of the code does to them, for the laws of specs/Trial and specs/Walk to use.
 -- Assumes nothing.
-use mathlib.Core.Path.{_≡_}
+use mathlib.Core.Path.{_≡_, refl, ap, _∙_, fun-ext}
 use mathlib.Core.Bool.{Bool, true, false}
 use mathlib.Core.List.{List}
 use mathlib.Core.Logic.{_≢_, _⊎_}
-use Prim.Native.Nat.{ℕ, zero, suc, _+_, _*_, _≤_, _<_}
-use lib.ListN.{length, getD, drop}
+use Prim.Native.Nat.{ℕ, zero, suc, _+_, _-_, _*_, _≤_, _<_}
+use native.Mathlib.Omega.{arith}
+use lib.ListN.{length, getD, set, drop}
+use lib.Seq.{getD-set-same, getD-set-other}
 use Rattle.placing.specs.declared.trial.Left.{Left}
 use Rattle.placing.specs.declared.trial.Left.the-variants.{Nothing, One, More}
+use Rattle.placing.specs.Corner.{Corner}
 use Rattle.placing.specs.Choice.{cornerAt}
 use Rattle.placing.specs.Problem.{Problem, Solution}
 use Rattle.placing.specs.State.{TwoOpen, CarriedTo, Carried, Stuck, Closed, Onward, Refused, Walked}
@@ -25,6 +28,46 @@ rowAt a b c d (suc (suc (suc (suc (suc e))))) = 0
 -- The four bytes of site i, by corner.
 unfoldable pub rowOf : List ℕ → ℕ → ℕ → ℕ
 rowOf ways i = rowAt (getD ways (4 * i) 0) (getD ways (4 * i + 1) 0) (getD ways (4 * i + 2) 0) (getD ways (4 * i + 3) 0)
+
+-- No site has a corner 0.
+pub row-zero : (ways : List ℕ) (i : ℕ) → rowOf ways i 0 ≡ 0
+unfolding rowOf
+row-zero ways i = refl
+
+-- Where a corner's byte stands.
+pub row-at : (ways : List ℕ) (i c : ℕ) → Corner c → rowOf ways i c ≡ getD ways (4 * i + (c - 1)) 0
+unfolding rowOf
+row-at ways i zero corner = absurd (omega arith)
+row-at ways i (suc zero) corner = ap (λ n. getD ways n 0) (omega arith)
+row-at ways i (suc (suc zero)) corner = refl
+row-at ways i (suc (suc (suc zero))) corner = refl
+row-at ways i (suc (suc (suc (suc zero)))) corner = refl
+row-at ways i (suc (suc (suc (suc (suc c))))) corner = absurd (omega arith)
+
+-- A byte that is written stands at its corner.
+pub row-written : (ways : List ℕ) (i c v : ℕ) → Corner c → 4 * i + (c - 1) < length ways
+    → rowOf (set ways (4 * i + (c - 1)) v) i c ≡ v
+row-written ways i c v corner fits =
+    row-at (set ways (4 * i + (c - 1)) v) i c corner ∙ getD-set-same ways (4 * i + (c - 1)) v 0 fits
+
+-- A byte that is written elsewhere leaves a corner as it is.
+row-other : (ways : List ℕ) (n v i e : ℕ) → (Corner e → 4 * i + (e - 1) ≢ n) → rowOf (set ways n v) i e ≡ rowOf ways i e
+unfolding rowOf
+row-other ways n v i zero other = refl
+row-other ways n v i (suc zero) other = getD-set-other ways n (4 * i) v 0 (λ p. other (omega arith) (omega arith))
+row-other ways n v i (suc (suc zero)) other = getD-set-other ways n (4 * i + 1) v 0 (λ p. other (omega arith) p)
+row-other ways n v i (suc (suc (suc zero))) other = getD-set-other ways n (4 * i + 2) v 0 (λ p. other (omega arith) p)
+row-other ways n v i (suc (suc (suc (suc zero)))) other = getD-set-other ways n (4 * i + 3) v 0 (λ p. other (omega arith) p)
+row-other ways n v i (suc (suc (suc (suc (suc e))))) other = refl
+
+-- A byte that is written at one corner leaves the site's others as they are.
+pub row-kept : (ways : List ℕ) (i c v e : ℕ) → Corner c → e ≢ c → rowOf (set ways (4 * i + (c - 1)) v) i e ≡ rowOf ways i e
+row-kept ways i c v e corner different = row-other ways (4 * i + (c - 1)) v i e (λ there same. different (omega arith))
+
+-- A byte that is written at site i leaves other sites as they are.
+pub row-elsewhere : (ways : List ℕ) (i n v j : ℕ) → 4 * i ≤ n → n ≤ 4 * i + 3 → j ≢ i → rowOf (set ways n v) j ≡ rowOf ways j
+row-elsewhere ways i n v j from to different =
+    fun-ext (λ e. row-other ways n v j e (λ corner same. different (omega arith)))
 
 pub record Sizes (ways decided : List ℕ) : Type 0 where
   pub ways-size : length ways ≡ 960
@@ -44,6 +87,29 @@ pub record SomeOpen (row : ℕ → ℕ) : Type 0 where
   pub differ : one ≢ two
   pub one-open : row one ≡ 1
   pub two-open : row two ≡ 1
+
+-- What holds of each open corner of four bytes holds of every open one.
+by-corner : (Q : ℕ → Type 0) (a b c d : ℕ) → (a ≡ 1 → Q 1) → (b ≡ 1 → Q 2) → (c ≡ 1 → Q 3) → (d ≡ 1 → Q 4)
+    → (e : ℕ) → rowAt a b c d e ≡ 1 → Q e
+by-corner Q a b c d at-a at-b at-c at-d zero h = absurd (omega arith)
+by-corner Q a b c d at-a at-b at-c at-d (suc zero) h = at-a h
+by-corner Q a b c d at-a at-b at-c at-d (suc (suc zero)) h = at-b h
+by-corner Q a b c d at-a at-b at-c at-d (suc (suc (suc zero))) h = at-c h
+by-corner Q a b c d at-a at-b at-c at-d (suc (suc (suc (suc zero)))) h = at-d h
+by-corner Q a b c d at-a at-b at-c at-d (suc (suc (suc (suc (suc e))))) h = absurd (omega arith)
+
+-- Corner k alone is open, by four bytes.
+pub lone-row : (a b c d k : ℕ) → (rowAt a b c d k ≡ 1) × (a ≡ 1 → 1 ≡ k) × (b ≡ 1 → 2 ≡ k) × (c ≡ 1 → 3 ≡ k) × (d ≡ 1 → 4 ≡ k)
+    → Lone (rowAt a b c d) k
+lone-row a b c d k h = record { is-open = h .0; alone = by-corner (λ e. e ≡ k) a b c d (h .1) (h .2) (h .3) (h .4) }
+
+-- No corner is open, by four bytes.
+pub none-row : (a b c d : ℕ) → (a ≢ 1) × (b ≢ 1) × (c ≢ 1) × (d ≢ 1) → NoneOpen (rowAt a b c d)
+none-row a b c d h = record { none-open = by-corner (λ e. ⊥) a b c d (h .0) (h .1) (h .2) (h .3) }
+
+-- Two corners are open.
+pub some-row : {row : ℕ → ℕ} (e f : ℕ) → (e ≢ f) × (row e ≡ 1) × (row f ≡ 1) → SomeOpen row
+some-row e f h = record { one = e; two = f; differ = h .0; one-open = h .1; two-open = h .2 }
 
 -- What the count of a site's open corners says.
 abbrev pub LeftIs : Left → (ℕ → ℕ) → Type 0

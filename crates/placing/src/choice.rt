@@ -2,9 +2,9 @@
 // fail. What it yields is the first good choice.
 use crate::crowding::Crowding;
 use crate::fresh::fresh_state;
-use crate::trial::try_corner;
 use crate::trial::Attempt;
 use crate::trial::State;
+use crate::trial::try_corner;
 use crate::units::HalfUnits;
 ghost use mathlib.Core.Path.{_≡_};
 ghost use Prim.Native.Nat.{_+_, _<_};
@@ -33,9 +33,9 @@ fn choose_corner(
     i: usize,
 ) -> Attempt
     requires { ⌜ MayWalk n (now xs) (now ys) side (state .ways) (state .decided) (now marks) i
-      × (i < n) × (cornerAt (state .decided) i ≡ 0) ⌝ }
+        × (i < n) × (cornerAt (state .decided) i ≡ 0) ⌝ }
     ensures walked { λ r. ⌜ WalkedTo (labels (side .0) n (now (xs .entry)) (now (ys .entry))) (i + 1)
-      (r .ok) (r .state .ways) (r .state .decided) ⌝ }
+        (r .ok) (r .state .ways) (r .state .decided) ⌝ }
     ensures kept { λ r. ⌜ Kept n (now (marks .entry)) (now (marks .exit)) ⌝ }
 {
     for e in 0..4 {
@@ -61,7 +61,7 @@ fn walk(
 ) -> Attempt
     requires { ⌜ MayWalk n (now xs) (now ys) side (start .ways) (start .decided) (now marks) 0 ⌝ }
     ensures walked { λ r. ⌜ WalkedTo (labels (side .0) n (now (xs .entry)) (now (ys .entry))) n
-      (r .ok) (r .state .ways) (r .state .decided) ⌝ }
+        (r .ok) (r .state .ways) (r .state .decided) ⌝ }
     ensures kept { λ r. ⌜ Kept n (now (marks .entry)) (now (marks .exit)) ⌝ }
 {
     let mut state = start;

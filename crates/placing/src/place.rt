@@ -1,6 +1,6 @@
 // Placing a list of places.
-use crate::side::find_answer;
 use crate::side::Placed;
+use crate::side::find_answer;
 use crate::units::Place;
 ghost use mathlib.Core.Path.{_≡_};
 ghost use mathlib.Core.List.{_++_};

@@ -1,7 +1,7 @@
 // Finding the side: 20,001 first, which is free, else the greatest side that has a good choice, by bisection.
 use crate::choice::choose;
-use crate::crowding::crowding_of;
 use crate::crowding::Crowding;
+use crate::crowding::crowding_of;
 use crate::units::HalfUnits;
 use crate::units::Limits;
 use crate::units::Side;
@@ -34,7 +34,13 @@ fn first_corners(corners: [u8; 240], n: usize) -> [u8; 240]
 
 // The greatest side that has a good choice, where 20,001 has none. At 1 every choice is good, and corner 1 everywhere is the
 // first.
-fn bisect(xs: &[u32; 240], ys: &[u32; 240], n: usize, crowding: Crowding, marks: &mut [u8]) -> Placed
+fn bisect(
+    xs: &[u32; 240],
+    ys: &[u32; 240],
+    n: usize,
+    crowding: Crowding,
+    marks: &mut [u8],
+) -> Placed
     requires { ⌜ MayBisect n (now xs) (now ys) crowding (now marks) ⌝ }
     ensures answer { λ r. ⌜ r ≡ placedAs (answerOf (sitesOf n (now (xs .entry)) (now (ys .entry)))) ⌝ }
     ensures kept { λ r. ⌜ Kept n (now (marks .entry)) (now (marks .exit)) ⌝ }

@@ -102,7 +102,7 @@ fn carry_to(
 ) -> bool
     requires { ⌜ MayCarryTo (now xs) (now ys) side (now ways) (now decided) k c j ⌝ }
     ensures { λ r. ⌜ ((n : ℕ) → CarriedThere (labels (side .0) n (now (xs .entry)) (now (ys .entry)))
-      (now (ways .entry)) (now (decided .entry)) k j r (now (ways .exit)) (now (decided .exit))) ⌝ }
+        (now (ways .entry)) (now (decided .entry)) k j r (now (ways .exit)) (now (decided .exit))) ⌝ }
 {
     let e = 4 * j + (c as usize - 1);
     if ways[e] == 1 {
@@ -133,7 +133,7 @@ fn carry_out(
 ) -> bool
     requires { ⌜ MayCarryOut n (now xs) (now ys) side (now ways) (now decided) k ⌝ }
     ensures { λ r. ⌜ CarriedOut (labels (side .0) n (now (xs .entry)) (now (ys .entry)))
-      (now (ways .entry)) (now (decided .entry)) k r (now (ways .exit)) (now (decided .exit)) ⌝ }
+        (now (ways .entry)) (now (decided .entry)) k r (now (ways .exit)) (now (decided .exit)) ⌝ }
 {
     let c = decided[k];
     for j in 0..n {
@@ -175,7 +175,7 @@ fn carry_on(
 ) -> bool
     requires { ⌜ MayCarryOn n (now xs) (now ys) side (now ways) (now decided) (now marks) ⌝ }
     ensures carried { λ r. ⌜ CarriedOn (labels (side .0) n (now (xs .entry)) (now (ys .entry)))
-      (now (ways .entry)) (now (decided .entry)) r (now (ways .exit)) (now (decided .exit)) ⌝ }
+        (now (ways .entry)) (now (decided .entry)) r (now (ways .exit)) (now (decided .exit)) ⌝ }
     ensures kept { λ r. ⌜ Kept n (now (marks .entry)) (now (marks .exit)) ⌝ }
 {
     loop {
@@ -233,7 +233,7 @@ pub fn try_corner(
 ) -> Attempt
     requires { ⌜ MayTry n (now xs) (now ys) side (state .ways) (state .decided) (now marks) i c ⌝ }
     ensures tried { λ r. ⌜ Tried (labels (side .0) n (now (xs .entry)) (now (ys .entry)))
-      (state .ways) (state .decided) i c (r .ok) (r .state .ways) (r .state .decided) ⌝ }
+        (state .ways) (state .decided) i c (r .ok) (r .state .ways) (r .state .decided) ⌝ }
     ensures kept { λ r. ⌜ Kept n (now (marks .entry)) (now (marks .exit)) ⌝ }
 {
     let mut ways = state.ways;

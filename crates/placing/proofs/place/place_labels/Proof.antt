@@ -1,0 +1,66 @@
+use mathlib.Core.Path.{_∙_, ap}
+use mathlib.Core.List.{List, _++_}
+use Prim.Native.Nat.{ℕ, _*_, _≤_}
+use native.Mathlib.Nat.{mul-le-mul-right}
+use native.Mathlib.Omega.{arith}
+use lib.ListN.{replicate}
+use Rattle.placing.specs.declared.units.Place.{Place}
+use Rattle.placing.specs.Answer.{answerOf}
+use Rattle.placing.specs.Marks.{kept-further}
+use Rattle.placing.specs.Placed.{may-find, placedAs}
+use borrow.Author.Needs.{needs}
+use Rattle.placing.proofs.place.place_labels.Statement.{statement}
+use Rattle.placing.proofs.place.place_labels.Tie as tie
+use Rattle.placing.proofs.place.place_labels.Reads as reads
+use Rattle.placing.proofs.place.place_labels.Lts as lts
+use Rattle.placing.proofs.place.clear.Reads as clear-reads
+use Rattle.placing.proofs.place.coordinates_of.Reads as coordinates-of-reads
+use Rattle.placing.proofs.side.find_answer.Reads as find-answer-reads
+
+-- src/place.rt:48:9
+coordinates-of-requires : tie.Need-coordinates-of-requires
+coordinates-of-requires c κs = search needs
+
+-- src/place.rt:51:9
+find-answer-requires : tie.Need-find-answer-requires
+find-answer-requires c κs =
+    let at-coordinates = c .before .before .before .before .before in
+    may-find (at-coordinates .before .before .pre) (at-coordinates .coordinates-of .ensures)
+
+-- src/place.rt:52:18
+mul-clear : tie.Need-mul-clear
+mul-clear c = search needs
+
+-- src/place.rt:52:5
+clear-requires : tie.Need-clear-requires
+clear-requires c κs = search needs
+
+-- src/place.rt:43:1
+same-length : tie.Need-same-length
+same-length c = search needs
+
+-- src/place.rt:43:1
+returns : tie.Need-returns
+returns c =
+    let at-clear = c .before .before in
+    let at-find = at-clear .before .before .before .before in
+    let at-start-coordinates = at-find .before .before .before .before .before .before in
+    let at-start = at-start-coordinates .before .before in
+    let n = at-start .args .n in
+    let wide : 1 * n ≤ n * n = mul-le-mul-right n (at-start .pre .some-sites) in (
+      at-find .find-answer .ensures .0
+          ∙ ap (λ (l : List Place). placedAs (answerOf l)) (at-start-coordinates .coordinates-of .ensures .same-sites),
+      at-clear .clear .ensures
+          ∙ ap (λ (l : List ℕ). replicate (n * n) 0 ++ l) (kept-further (n * n) (omega arith) (at-find .find-answer .ensures .1)),
+    )
+
+pub place-labels-spec : {M : Type 1} → statement M
+place-labels-spec =
+    tie.close
+    (tie.spec
+    coordinates-of-requires
+    find-answer-requires
+    mul-clear
+    clear-requires
+    same-length
+    returns)

@@ -1,0 +1,31 @@
+-- Document 01: what the placing program writes for a list, whole.
+-- Assumes nothing.
+use mathlib.Core.List.{List, [], _∷_, _++_}
+use Prim.Native.Nat.{ℕ}
+use Rattle.plan.specs.declared.refusal.Refusal.{Refusal}
+use Rattle.plan.specs.declared.refusal.Refusal.the-variants.{NoSites}
+use Rattle.plan.specs.Refusal.{numberOf}
+use Rattle.plan.specs.Text.{tab, lineFeed}
+use Rattle.plan.specs.Number.{decimal}
+use Rattle.plan.specs.Site.{Site}
+use Rattle.plan.specs.Enter.{Sites, accepted, refused}
+use Rattle.plan.specs.List.{readList}
+use Rattle.plan.specs.Sheet.{sheetOf}
+
+-- The word refused.
+abbrev pub refusedWord : List ℕ
+refusedWord = 114 ∷ 101 ∷ 102 ∷ 117 ∷ 115 ∷ 101 ∷ 100 ∷ []
+
+-- "A refusal is written as the word refused, a tab, the number, a line feed."
+pub refusalLine : Refusal → List ℕ
+refusalLine why = refusedWord ++ (tab ∷ decimal (numberOf why)) ++ (lineFeed ∷ [])
+
+-- The output for what a list was read as: its sheet, or the refusal. A list of no sites cannot be placed.
+abbrev pub outputFor : Sites → List ℕ
+outputFor (accepted []) = refusalLine NoSites
+outputFor (accepted (site ∷ sites)) = sheetOf (site ∷ sites)
+outputFor (refused why) = refusalLine why
+
+-- The output for a text.
+pub outputOf : List ℕ → List ℕ
+outputOf text = outputFor (readList text)

@@ -1,0 +1,67 @@
+-- Document 01, "Calls on a plan": what a plan's record holds. "A plan is what these calls hand back, kept or copied but never
+-- patched by hand."
+-- Assumes nothing.
+use mathlib.Core.Bool.{true, false}
+use mathlib.Core.List.{List, [], _∷_, _++_, map}
+use Prim.Native.Nat.{ℕ, zero, suc, _-_, _≤_}
+use lib.ListN.{length, take, replicate}
+use Rattle.placing.specs.declared.side.Placed.{Placed}
+use Rattle.placing.specs.declared.units.Place.{Place}
+use Rattle.placing.specs.declared.units.Side.the-variants.{Free}
+use Rattle.placing.specs.Units.{nowhere}
+use Rattle.placing.specs.Answer.{answerOf}
+use Rattle.placing.specs.Placed.{placedAs}
+use Rattle.plan.specs.declared.name.Name.{Name}
+use Rattle.plan.specs.declared.plan.Plan.{Plan}
+use Rattle.plan.specs.Name.{nameOf, bytesOf}
+use Rattle.plan.specs.Site.{Site, nameIn, placesOf, Listed}
+
+-- The record of a name, of a site.
+abbrev pub nameRecord : Site → Name
+nameRecord site = nameOf (nameIn site)
+
+-- The names and the places of some sites, then empty slots.
+abbrev pub namesHeld : List Site → List Name
+namesHeld sites = map nameRecord sites ++ replicate (240 - length sites) (nameOf [])
+
+abbrev pub placesHeld : List Site → List Place
+placesHeld sites = placesOf sites ++ replicate (240 - length sites) nowhere
+
+-- The plan of some sites while it is not placed. Its side and corners are as the constructor leaves them.
+pub unplaced : List Site → Plan
+unplaced sites =
+    record {
+      count = length sites;
+      names = namesHeld sites;
+      places = placesHeld sites;
+      placed = false;
+      side = Free;
+      corners = replicate 240 0;
+    }
+
+-- The plan of some sites once it is placed: with the answer for their places.
+pub placed : List Site → Plan
+placed sites =
+    record {
+      count = length sites;
+      names = namesHeld sites;
+      places = placesHeld sites;
+      placed = true;
+      side = placedAs (answerOf (placesOf sites)) .side;
+      corners = placedAs (answerOf (placesOf sites)) .corners;
+    }
+
+-- Names and places side by side.
+pub sitesFrom : List Name → List Place → List Site
+sitesFrom [] places = []
+sitesFrom (name ∷ names) [] = []
+sitesFrom (name ∷ names) (place ∷ places) = record { name = bytesOf name; place = place } ∷ sitesFrom names places
+
+-- The sites that a plan holds.
+pub sitesIn : Plan → List Site
+sitesIn plan = sitesFrom (take (plan .count) (plan .names)) (take (plan .count) (plan .places))
+
+-- A plan that the calls hand back.
+pub data Valid : Plan → Type 0 where
+  is-unplaced : (sites : List Site) → Listed sites → Valid (unplaced sites)
+  is-placed : (sites : List Site) → Listed sites → 1 ≤ length sites → Valid (placed sites)

@@ -1,0 +1,30 @@
+-- Document 01, "Refused because of the input" and "Refused because of the state".
+-- Assumes nothing.
+use Prim.Native.Nat.{ℕ}
+use Rattle.plan.specs.declared.refusal.Refusal.{Refusal}
+use Rattle.plan.specs.declared.refusal.Refusal.the-variants.{Line, Name, Coordinate, NameTaken, PlaceTaken, NoSuchSite, Full, NoSites, NotPlaced, ShortBuffer, ShortTable}
+
+-- The number of each refusal.
+abbrev pub numberOf : Refusal → ℕ
+-- a line of other than three fields, over 20 bytes, or without its line feed
+numberOf Line = 1
+-- a name outside the rule
+numberOf Name = 2
+-- a coordinate outside the rule
+numberOf Coordinate = 3
+-- a name already in the plan
+numberOf NameTaken = 4
+-- a place already in the plan
+numberOf PlaceTaken = 5
+-- a site number at or above the count
+numberOf NoSuchSite = 6
+-- entering where 240 sites stand
+numberOf Full = 7
+-- placing a plan of no sites
+numberOf NoSites = 8
+-- asking side or corner, or writing, while unplaced
+numberOf NotPlaced = 9
+-- the output buffer is shorter than the sheet
+numberOf ShortBuffer = 10
+-- the work table is shorter than n × n
+numberOf ShortTable = 11

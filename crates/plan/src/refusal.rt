@@ -1,0 +1,42 @@
+// Why a call is refused, with document 01's numbers.
+ghost use mathlib.Core.Path.{_≡_};
+ghost use Rattle.plan.specs.Refusal.{numberOf};
+
+pub enum Refusal {
+    Line,
+    Name,
+    Coordinate,
+    NameTaken,
+    PlaceTaken,
+    NoSuchSite,
+    Full,
+    NoSites,
+    NotPlaced,
+    ShortBuffer,
+    ShortTable,
+}
+
+// The answer of a call that hands back nothing but a plan.
+pub enum Outcome {
+    Done,
+    Refused(Refusal),
+}
+
+// Document 01's number of a refusal.
+pub fn number_of(refusal: Refusal) -> u8
+    ensures { λ r. ⌜ r ≡ numberOf refusal ⌝ }
+{
+    match refusal {
+        Refusal::Line => 1,
+        Refusal::Name => 2,
+        Refusal::Coordinate => 3,
+        Refusal::NameTaken => 4,
+        Refusal::PlaceTaken => 5,
+        Refusal::NoSuchSite => 6,
+        Refusal::Full => 7,
+        Refusal::NoSites => 8,
+        Refusal::NotPlaced => 9,
+        Refusal::ShortBuffer => 10,
+        Refusal::ShortTable => 11,
+    }
+}

@@ -8,13 +8,12 @@ use Prim.Native.Nat.{ℕ, zero, suc, _≤_, _<_}
 use native.Mathlib.Omega.{arith}
 use native.Mathlib.Decide.{decLt}
 use lib.Dec.{lit≤}
-use lib.ListN.{length, replicate, length-replicate, getD-replicate}
+use lib.ListN.{length}
 use Rattle.placing.specs.declared.units.Place.{Place}
 use Rattle.placing.specs.declared.units.Side.{Side}
 use Rattle.placing.specs.declared.units.Side.the-variants.{Number, Free}
 use Rattle.placing.specs.Units.{Distinct, greatestSide, freeSide}
-use Rattle.placing.specs.Corner.{Corner}
-use Rattle.placing.specs.Choice.{cornerAt, Good, First, good-smaller, good-at-one, first-unique}
+use Rattle.placing.specs.Choice.{Good, First, good-smaller, good-one-exists, first-unique}
 use Rattle.placing.specs.Decide.{good?}
 use Rattle.placing.specs.Enumerate.{
   firstOf,
@@ -86,13 +85,6 @@ module _ {h : ℕ} {ps : List Place} where
   -- and where there is none it finds nothing.
   pub none-found : ((cs : List ℕ) → Good h ps cs → ⊥) → firstGood h ps ≡ none
   none-found = finds-nothing (finds-first-good h ps)
-
--- Every list of distinct places has a good choice at 1.
-good-one-exists : {ps : List Place} → Distinct ps → Good 1 ps (replicate (length ps) 1)
-good-one-exists {ps} d = good-at-one d (record { one-each = length-replicate (length ps) 1; corner = ones })
-  where
-    ones : (i : ℕ) → i < length ps → Corner (cornerAt (replicate (length ps) 1) i)
-    ones i l = rw (getD-replicate {A = ℕ} (length ps) i 1 0 l) (record { least = omega arith; most = omega arith })
 
 -- Where h has no good choice no greater side has one.
 none-above : {h : ℕ} {ps : List Place} → ((es : List ℕ) → Good h ps es → ⊥) → (k : ℕ) → h ≤ k → (es : List ℕ) → Good k ps es → ⊥

@@ -7,16 +7,14 @@ use mathlib.Core.Option.{Option, some, none}
 use Prim.Native.Nat.{ℕ, zero, suc, _+_, _-_, _≤_, _<_, zero-le, suc-le-suc}
 use native.Mathlib.Nat.{le-of-suc-le-suc}
 use native.Mathlib.Omega.{arith}
-use lib.ListN.{length, getD, take, replicate, length-replicate, getD-replicate}
-use lib.Seq.{length-take-le}
+use lib.ListN.{length, take, replicate}
 use Rattle.placing.specs.declared.choice.Chosen.{Chosen}
 use Rattle.placing.specs.declared.side.Placed.{Placed}
 use Rattle.placing.specs.declared.units.Place.{Place}
 use Rattle.placing.specs.declared.units.Side.{Side}
 use Rattle.placing.specs.declared.units.Side.the-variants.{Number, Free}
 use Rattle.placing.specs.Units.{Distinct, freeSide, greatestSide}
-use Rattle.placing.specs.Corner.{Corner}
-use Rattle.placing.specs.Choice.{cornerAt, Corners, Good, First, Before, lower, later, good-at-one}
+use Rattle.placing.specs.Choice.{cornerAt, Good, First, Before, lower, later, good-one-exists}
 use Rattle.placing.specs.Answer.{Answer, numbered, unbounded, answerOf, firstGood, firstGood-some, firstGood-none, answer-found, answer-free}
 use Rattle.placing.specs.Chosen.{whereYes, choiceIn}
 use Rattle.placing.specs.Placed.{placedAs}
@@ -30,11 +28,7 @@ ones-first (suc n) (e ∷ es) corner (later b) = ones-first n es (λ i h. corner
 pub first-at-one : {ps : List Place} → Distinct ps → First 1 ps (replicate (length ps) 1)
 first-at-one {ps} distinct =
     record {
-      good = good-at-one distinct
-          (record {
-            one-each = length-replicate (length ps) 1;
-            corner = λ i h. rw (getD-replicate {A = ℕ} (length ps) i 1 0 h) (record { least = omega arith; most = omega arith });
-          });
+      good = good-one-exists distinct;
       none-before = λ es good. ones-first (length ps) es (λ i h. good .corners .corner i h .least);
     }
 

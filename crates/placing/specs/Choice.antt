@@ -6,7 +6,7 @@ use mathlib.Core.Logic.{_≢_, Ne·symm, _⊎_, inl, inr}
 use Prim.Native.Nat.{ℕ, _≤_, _<_}
 use native.Mathlib.Decide.{ℕ-discrete, decLt}
 use native.Mathlib.Omega.{arith}
-use lib.ListN.{length, getD}
+use lib.ListN.{length, getD, replicate, length-replicate, getD-replicate}
 use Rattle.placing.specs.declared.units.Place.{Place}
 use Rattle.placing.specs.declared.corner.Direction.{Direction}
 use Rattle.placing.specs.declared.corner.Direction.the-variants.{Up, Down}
@@ -78,7 +78,7 @@ meet-one {s} {t} {c} {e} meet =
       same-y = overlap-one (alongY c) (alongY e) (yOf s) (yOf t) (meet .along-y);
     }
 
--- "A good choice exists at h = 1 always": every choice of corners is one.
+-- At h = 1 every choice of corners is good.
 pub good-at-one : {ps : List Place} {cs : List ℕ} → Distinct ps → Corners (length ps) cs → Good 1 ps cs
 good-at-one places corners =
     record {
@@ -87,6 +87,13 @@ good-at-one places corners =
           places .distinct i (crowded .other) listed (crowded .listed) (Ne·symm (crowded .different)) (doubled-covers-one (crowded .covered));
       apart = λ i j i-listed j-listed differ meet. places .distinct i j i-listed j-listed differ (meet-one meet);
     }
+
+-- "A good choice exists at h = 1 always": corner 1 for every site.
+pub good-one-exists : {ps : List Place} → Distinct ps → Good 1 ps (replicate (length ps) 1)
+good-one-exists {ps} places = good-at-one places (record { one-each = length-replicate (length ps) 1; corner = ones })
+  where
+    ones : (i : ℕ) → i < length ps → Corner (cornerAt (replicate (length ps) 1) i)
+    ones i listed = rw (getD-replicate {A = ℕ} (length ps) i 1 0 listed) (record { least = omega arith; most = omega arith })
 
 -- From the side at which free is judged nothing changes any more, because no two coordinates are further apart than
 -- 10,000: what lies ahead at all lies ahead below it ..

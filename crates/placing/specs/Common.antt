@@ -2,6 +2,7 @@
 -- is covered by both. So the rule says what the picture says.
 -- Assumes nothing.
 use mathlib.Core.Path.{_≡_}
+use mathlib.Core.Logic.{_↔_}
 use Prim.Native.Nat.{ℕ, _+_, _-_, _*_, _≤_, _<_, max, min}
 use native.Mathlib.Nat.{mul-sub, mul-le-mul-right, mul-lt-mul-of-pos-right, lt-of-mul-lt-mul-right, le-of-mul-le-mul-right}
 use native.Mathlib.Decide.{ℕ-discrete}
@@ -80,7 +81,7 @@ module _ (p q : ℕ) (some-p : 1 ≤ p) (some-q : 1 ≤ q) where
 
 -- From the site's coordinate a in the label's direction, t lies at 0 or further, and less far than p/q half units: what a
 -- label covers is so along both axes.
-abbrev Within : (p q : ℕ) → Direction → ℕ → Fraction → Type 0
+abbrev pub Within : (p q : ℕ) → Direction → ℕ → Fraction → Type 0
 Within p q Up a t = (moved a t ≤ t .plus) × (t .plus * q < p * t .parts + moved a t * q)
 Within p q Down a t = (t .plus ≤ moved a t) × (moved a t * q < p * t .parts + t .plus * q)
 
@@ -120,7 +121,7 @@ module _ (p q : ℕ) (some-p : 1 ≤ p) where
       ordered = le-of-mul-le-mul-right {k = t .parts} (omega arith) (t .some-parts)
 
   -- Labels within which one fraction lies overlap.
-  within-overlap : (d e : Direction) (a b : ℕ) (t : Fraction) → Within p q d a t → Within p q e b t → Overlap p q d a e b
+  pub within-overlap : (d e : Direction) (a b : ℕ) (t : Fraction) → Within p q d a t → Within p q e b t → Overlap p q d a e b
   within-overlap Up Up a b t of-one of-other =
       let one = mul-le-mul-right q (of-one .0) in
       let other = mul-le-mul-right q (of-other .0) in
@@ -133,7 +134,7 @@ module _ (p q : ℕ) (some-p : 1 ≤ p) where
   within-overlap Down Up a b t of-one of-other = facing-overlap b a t of-other of-one
 
   -- What a label covers lies within it along both axes.
-  covers-within : (s : Place) (c : ℕ) (point : Point) → Covers p q s c point
+  pub covers-within : (s : Place) (c : ℕ) (point : Point) → Covers p q s c point
       → Within p q (alongX c) (xOf s) (point .x) × Within p q (alongY c) (yOf s) (point .y)
   covers-within s c point (square x y) = (inside-within (alongX c) (xOf s) (point .x) x, inside-within (alongY c) (yOf s) (point .y) y)
   covers-within s c point (edge-y x y) = (at-within (alongX c) (xOf s) (point .x) x, inside-within (alongY c) (yOf s) (point .y) y)
@@ -148,3 +149,9 @@ module _ (p q : ℕ) (some-p : 1 ≤ p) where
         along-x = within-overlap (alongX c) (alongX e) (xOf s) (xOf t) (point .x) (one .0) (other .0);
         along-y = within-overlap (alongY c) (alongY e) (yOf s) (yOf t) (point .y) (one .1) (other .1);
       }
+
+-- Labels at different places meet exactly when they cover a point in common.
+pub meet-exactly : (p q : ℕ) → 1 ≤ p → 1 ≤ q → {s t : Place} {c e : ℕ} → (Same s t → ⊥)
+    → Meet p q s c t e ↔ ((point : Point) × Covers p q s c point × Covers p q t e point)
+meet-exactly p q some-p some-q differ =
+    (meet-common p q some-p some-q differ, λ common. common-meet p q some-p (common .1) (common .2))

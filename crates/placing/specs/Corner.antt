@@ -1,6 +1,6 @@
 -- Document 01, "Corners": numbered as quadrants, each with two directions.
 -- Assumes nothing.
-use mathlib.Core.Bool.{Bool, true, false, cond, _||_}
+use mathlib.Core.Bool.{Bool, true, false, _||_}
 use Prim.Native.Nat.{ℕ, _≤_}
 use lib.Dec.{eqb}
 use Rattle.placing.specs.declared.corner.Direction.{Direction}

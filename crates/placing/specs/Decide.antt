@@ -13,51 +13,31 @@ use borrow.Author.Tests.{leb-true, leb-false, eqb-true, eqb-false}
 use Rattle.placing.specs.declared.units.Place.{Place}
 use Rattle.placing.specs.declared.corner.Direction.{Direction}
 use Rattle.placing.specs.declared.corner.Direction.the-variants.{Up, Down}
+use Rattle.placing.specs.Decides.{Decides, decides-same, decides-second, decides-no, decides-yes, decided}
 use Rattle.placing.specs.Units.{dist, xOf, yOf, siteAt}
 use Rattle.placing.specs.Corner.{Corner, alongX, alongY}
 use Rattle.placing.specs.Meet.{Overlap, Meet}
 use Rattle.placing.specs.Crowd.{Ahead, DoubledCovers, Crowded}
 use Rattle.placing.specs.Choice.{cornerAt, Corners, Good}
 
--- The test b passes exactly when the statement A holds.
-pub data Decides (A : Type 0) : Bool → Type 0 where
-  holds : A → Decides A true
-  fails : (A → ⊥) → Decides A false
-
--- A decided statement, without its test.
-pub decided : {A : Type 0} {b : Bool} → Decides A b → Dec A
-decided (holds a) = yes a
-decided (fails n) = no n
-
--- A test decides also what is equivalent to its statement.
-pub decides-same : {A B : Type 0} {b : Bool} → (A → B) → (B → A) → Decides A b → Decides B b
-decides-same f g (holds a) = holds (f a)
-decides-same f g (fails n) = fails (λ b. n (g b))
-
--- A test decides what follows from its passing and is refuted by its failing.
-of-test : {A : Type 0} (b : Bool) → (b ≡ true → A) → (b ≡ false → A → ⊥) → Decides A b
-of-test true f g = holds (f refl)
-of-test false f g = fails (g refl)
-
 -- The tests of numbers decide.
-pub le-decides : (a b : ℕ) → Decides (a ≤ b) (leb a b)
-le-decides a b = of-test (leb a b) (leb-true a b) (λ e l. omega (arith, leb-false a b e))
+pub le-decides : (a b : ℕ) → Decides (leb a b) (a ≤ b)
+le-decides a b = record { yes-holds = leb-true a b; no-fails = λ e l. omega (arith, leb-false a b e) }
 
-pub lt-decides : (a b : ℕ) → Decides (a < b) (ltb a b)
+pub lt-decides : (a b : ℕ) → Decides (ltb a b) (a < b)
 lt-decides a b = le-decides (suc a) b
 
-pub eq-decides : (a b : ℕ) → Decides (a ≡ b) (eqb a b)
-eq-decides a b = of-test (eqb a b) (eqb-true a b) (eqb-false a b)
+pub eq-decides : (a b : ℕ) → Decides (eqb a b) (a ≡ b)
+eq-decides a b = record { yes-holds = eqb-true a b; no-fails = eqb-false a b }
 
 -- So do both of two tests, and a test turned round.
-pub both-decide : {A B : Type 0} {a b : Bool} → Decides A a → Decides B b → Decides (A × B) (a && b)
-both-decide (holds x) (holds y) = holds (x, y)
-both-decide (holds x) (fails n) = fails (λ r. n (r .1))
-both-decide (fails n) d = fails (λ r. n (r .0))
+pub both-decide : {a b : Bool} {A B : Type 0} → Decides a A → Decides b B → Decides (a && b) (A × B)
+both-decide {a = true} d e = decides-second (d .yes-holds refl) e (λ x y. (x, y)) (λ r. r .1)
+both-decide {a = false} d e = decides-no (λ r. d .no-fails refl (r .0))
 
-pub not-decides : {A : Type 0} {a : Bool} → Decides A a → Decides (A → ⊥) (not a)
-not-decides (holds x) = fails (λ n. n x)
-not-decides (fails n) = holds n
+pub not-decides : {a : Bool} {A : Type 0} → Decides a A → Decides (not a) (A → ⊥)
+not-decides {a = true} d = decides-no (λ n. n (d .yes-holds refl))
+not-decides {a = false} d = decides-yes (d .no-fails refl)
 
 -- The test passes for every number below n.
 abbrev pub allBelow : ℕ → (ℕ → Bool) → Bool
@@ -72,36 +52,36 @@ below-suc {P} n p all i l = by-place (ℕ-discrete i n)
     by-place (yes e) = subst P (sym e) p
     by-place (no d) = all i (omega arith)
 
-pub all-decides : {P : ℕ → Type 0} (t : ℕ → Bool) (n : ℕ) → ((i : ℕ) → Decides (P i) (t i))
-    → Decides ((i : ℕ) → i < n → P i) (allBelow n t)
-all-decides t zero d = holds (λ i l. absurd (omega arith))
+pub all-decides : {P : ℕ → Type 0} (t : ℕ → Bool) (n : ℕ) → ((i : ℕ) → Decides (t i) (P i))
+    → Decides (allBelow n t) ((i : ℕ) → i < n → P i)
+all-decides t zero d = decides-yes (λ i l. absurd (omega arith))
 all-decides {P} t (suc n) d = last (t n) (d n) (all-decides t n d)
   where
-    last : (b : Bool) → Decides (P n) b → Decides ((i : ℕ) → i < n → P i) (allBelow n t)
-        → Decides ((i : ℕ) → i < suc n → P i) (elim b [ true ↦ allBelow n t | false ↦ false ])
-    last true (holds p) r = decides-same (below-suc n p) (λ all i l. all i (omega arith)) r
-    last false (fails f) r = fails (λ all. f (all n (omega arith)))
+    last : (b : Bool) → Decides b (P n) → Decides (allBelow n t) ((i : ℕ) → i < n → P i)
+        → Decides (elim b [ true ↦ allBelow n t | false ↦ false ]) ((i : ℕ) → i < suc n → P i)
+    last true p r = decides-same (below-suc n (p .yes-holds refl)) (λ all i l. all i (omega arith)) r
+    last false p r = decides-no (λ all. p .no-fails refl (all n (omega arith)))
 
 -- The test passes for some number below n.
 abbrev pub someBelow : ℕ → (ℕ → Bool) → Bool
 someBelow zero t = false
 someBelow (suc n) t = elim (t n) [ true ↦ true | false ↦ someBelow n t ]
 
-pub some-decides : {P : ℕ → Type 0} (t : ℕ → Bool) (n : ℕ) → ((i : ℕ) → Decides (P i) (t i))
-    → Decides ((i : ℕ) × (i < n) × P i) (someBelow n t)
-some-decides t zero d = fails (λ s. omega (arith, s .1))
+pub some-decides : {P : ℕ → Type 0} (t : ℕ → Bool) (n : ℕ) → ((i : ℕ) → Decides (t i) (P i))
+    → Decides (someBelow n t) ((i : ℕ) × (i < n) × P i)
+some-decides t zero d = decides-no (λ s. omega (arith, s .1))
 some-decides {P} t (suc n) d = last (t n) (d n) (some-decides t n d)
   where
-    last : (b : Bool) → Decides (P n) b → Decides ((i : ℕ) × (i < n) × P i) (someBelow n t)
-        → Decides ((i : ℕ) × (i < suc n) × P i) (elim b [ true ↦ true | false ↦ someBelow n t ])
-    last true (holds p) r = holds (n, omega arith, p)
-    last false (fails f) r = decides-same (λ s. (s .0, omega (arith, s .1), s .2)) back r
+    last : (b : Bool) → Decides b (P n) → Decides (someBelow n t) ((i : ℕ) × (i < n) × P i)
+        → Decides (elim b [ true ↦ true | false ↦ someBelow n t ]) ((i : ℕ) × (i < suc n) × P i)
+    last true p r = decides-yes (n, omega arith, p .yes-holds refl)
+    last false p r = decides-same (λ s. (s .0, omega (arith, s .1), s .2)) back r
       where
         back : (i : ℕ) × (i < suc n) × P i → (i : ℕ) × (i < n) × P i
         back s = by-place (ℕ-discrete (s .0) n)
           where
             by-place : Dec (s .0 ≡ n) → (i : ℕ) × (i < n) × P i
-            by-place (yes e) = absurd (f (subst P e (s .2)))
+            by-place (yes e) = absurd (p .no-fails refl (subst P e (s .2)))
             by-place (no d) = (s .0, omega (arith, s .1), s .2)
 
 -- The rules' tests, in document 01's order.
@@ -111,7 +91,7 @@ overlapTest p q Down a Down b = ltb (2 * dist a b * q) p
 overlapTest p q Up a Down b = leb a b && ltb ((b - a) * q) p
 overlapTest p q Down a Up b = leb b a && ltb ((a - b) * q) p
 
-pub overlap-decides : (p q : ℕ) (d : Direction) (a : ℕ) (e : Direction) (b : ℕ) → Decides (Overlap p q d a e b) (overlapTest p q d a e b)
+pub overlap-decides : (p q : ℕ) (d : Direction) (a : ℕ) (e : Direction) (b : ℕ) → Decides (overlapTest p q d a e b) (Overlap p q d a e b)
 overlap-decides p q Up a Up b = lt-decides _ _
 overlap-decides p q Down a Down b = lt-decides _ _
 overlap-decides p q Up a Down b = both-decide (le-decides _ _) (lt-decides _ _)
@@ -121,7 +101,7 @@ abbrev pub meetTest : (p q : ℕ) → Place → ℕ → Place → ℕ → Bool
 meetTest p q s c t e =
     overlapTest p q (alongX c) (xOf s) (alongX e) (xOf t) && overlapTest p q (alongY c) (yOf s) (alongY e) (yOf t)
 
-pub meet-decides : (p q : ℕ) (s : Place) (c : ℕ) (t : Place) (e : ℕ) → Decides (Meet p q s c t e) (meetTest p q s c t e)
+pub meet-decides : (p q : ℕ) (s : Place) (c : ℕ) (t : Place) (e : ℕ) → Decides (meetTest p q s c t e) (Meet p q s c t e)
 meet-decides p q s c t e =
     decides-same (λ r. record { along-x = r .0; along-y = r .1 }) (λ m. (m .along-x, m .along-y))
     (both-decide (overlap-decides p q (alongX c) (xOf s) (alongX e) (xOf t)) (overlap-decides p q (alongY c) (yOf s) (alongY e) (yOf t)))
@@ -130,14 +110,14 @@ abbrev pub aheadTest : ℕ → Direction → ℕ → ℕ → Bool
 aheadTest h Up a b = leb a b && ltb b (a + h)
 aheadTest h Down a b = leb b a && ltb a (b + h)
 
-pub ahead-decides : (h : ℕ) (d : Direction) (a b : ℕ) → Decides (Ahead h d a b) (aheadTest h d a b)
+pub ahead-decides : (h : ℕ) (d : Direction) (a b : ℕ) → Decides (aheadTest h d a b) (Ahead h d a b)
 ahead-decides h Up a b = both-decide (le-decides _ _) (lt-decides _ _)
 ahead-decides h Down a b = both-decide (le-decides _ _) (lt-decides _ _)
 
 abbrev pub coversTest : ℕ → Place → ℕ → Place → Bool
 coversTest h s c t = aheadTest h (alongX c) (xOf s) (xOf t) && aheadTest h (alongY c) (yOf s) (yOf t)
 
-pub covers-decides : (h : ℕ) (s : Place) (c : ℕ) (t : Place) → Decides (DoubledCovers h s c t) (coversTest h s c t)
+pub covers-decides : (h : ℕ) (s : Place) (c : ℕ) (t : Place) → Decides (coversTest h s c t) (DoubledCovers h s c t)
 covers-decides h s c t =
     decides-same (λ r. record { along-x = r .0; along-y = r .1 }) (λ m. (m .along-x, m .along-y))
     (both-decide (ahead-decides h (alongX c) (xOf s) (xOf t)) (ahead-decides h (alongY c) (yOf s) (yOf t)))
@@ -149,7 +129,7 @@ crowdsTest h ps i c j = not (eqb j i) && coversTest h (siteAt ps i) c (siteAt ps
 abbrev pub crowdedTest : ℕ → List Place → (i c : ℕ) → Bool
 crowdedTest h ps i c = someBelow (length ps) (crowdsTest h ps i c)
 
-pub crowded-decides : (h : ℕ) (ps : List Place) (i c : ℕ) → Decides (Crowded h ps i c) (crowdedTest h ps i c)
+pub crowded-decides : (h : ℕ) (ps : List Place) (i c : ℕ) → Decides (crowdedTest h ps i c) (Crowded h ps i c)
 crowded-decides h ps i c =
     decides-same (λ s. record { other = s .0; listed = s .1; different = s .2 .0; covered = s .2 .1 })
     (λ r. (r .other, r .listed, (r .different, r .covered)))
@@ -161,21 +141,21 @@ abbrev pub pairTest : (p q : ℕ) → List Place → List ℕ → (i j : ℕ) �
 pairTest p q ps cs i j = not (eqb i j) && meetTest p q (siteAt ps i) (cornerAt cs i) (siteAt ps j) (cornerAt cs j)
 
 pub pair-decides : (p q : ℕ) (ps : List Place) (cs : List ℕ) (i j : ℕ)
-    → Decides ((i ≢ j) × Meet p q (siteAt ps i) (cornerAt cs i) (siteAt ps j) (cornerAt cs j)) (pairTest p q ps cs i j)
+    → Decides (pairTest p q ps cs i j) ((i ≢ j) × Meet p q (siteAt ps i) (cornerAt cs i) (siteAt ps j) (cornerAt cs j))
 pair-decides p q ps cs i j =
     both-decide (not-decides (eq-decides i j)) (meet-decides p q (siteAt ps i) (cornerAt cs i) (siteAt ps j) (cornerAt cs j))
 
 abbrev pub cornerTest : ℕ → Bool
 cornerTest c = leb 1 c && leb c 4
 
-pub corner-decides : (c : ℕ) → Decides (Corner c) (cornerTest c)
+pub corner-decides : (c : ℕ) → Decides (cornerTest c) (Corner c)
 corner-decides c =
     decides-same (λ r. record { least = r .0; most = r .1 }) (λ r. (r .least, r .most)) (both-decide (le-decides 1 c) (le-decides c 4))
 
 abbrev cornersTest : ℕ → List ℕ → Bool
 cornersTest n cs = eqb (length cs) n && allBelow n (λ i. cornerTest (cornerAt cs i))
 
-corners-decide : (n : ℕ) (cs : List ℕ) → Decides (Corners n cs) (cornersTest n cs)
+corners-decide : (n : ℕ) (cs : List ℕ) → Decides (cornersTest n cs) (Corners n cs)
 corners-decide n cs =
     decides-same (λ r. record { one-each = r .0; corner = r .1 }) (λ r. (r .one-each, r .corner))
     (both-decide (eq-decides (length cs) n) (all-decides _ n (λ i. corner-decides (cornerAt cs i))))
@@ -186,7 +166,7 @@ goodTest h ps cs =
     cornersTest n cs
     && (allBelow n (λ i. not (crowdedTest h ps i (cornerAt cs i))) && allBelow n (λ i. allBelow n (λ j. not (pairTest h 1 ps cs i j))))
 
-good-decides : (h : ℕ) (ps : List Place) (cs : List ℕ) → Decides (Good h ps cs) (goodTest h ps cs)
+good-decides : (h : ℕ) (ps : List Place) (cs : List ℕ) → Decides (goodTest h ps cs) (Good h ps cs)
 good-decides h ps cs =
     decides-same
     (λ r.

@@ -6,7 +6,7 @@ use mathlib.Core.Logic.{_⊎_, inl, inr}
 use Prim.Native.Nat.{ℕ, zero, suc, _≤_, _<_, zero-le, suc-le-suc}
 use native.Mathlib.Nat.{le-of-lt, le-of-eq, lt-irrefl, le-of-suc-le-suc}
 use native.Mathlib.Omega.{arith}
-use lib.ListN.{length, getD}
+use lib.ListN.{length}
 use Rattle.placing.specs.Choice.{cornerAt, Before, lower, later}
 use Rattle.placing.specs.State.{Greater}
 
@@ -44,8 +44,3 @@ module _ (c : ℕ) (cs es : List ℕ) where
 pub same-or-greater-not-before : {cs es : List ℕ} → Before es cs → SameOrGreater cs es → ⊥
 same-or-greater-not-before (lower {c = e} {e = c} {cs = es} {es = cs} h) s = omega (arith, head-not-lower c e cs es s)
 same-or-greater-not-before (later {c = c} {cs = es} {es = cs} b) s = same-or-greater-not-before b (tail-same-or-greater c cs es s)
-
--- The same for two lists of one length, one for each site.
-pub greater-not-before : (cs es : List ℕ) → length cs ≡ length es
-    → ((m : ℕ) → m < length cs → getD es m 0 ≡ getD cs m 0) ⊎ Greater (cornerAt cs) (length cs) (cornerAt es) → Before es cs → ⊥
-greater-not-before cs es equal s b = same-or-greater-not-before b s

@@ -1,6 +1,6 @@
--- What a function that answers yes or no promises: its answer decides a rule.
+-- What a function that answers yes or no promises, and what a test of the rules is proved to do: its answer decides a rule.
 -- Assumes nothing.
-use mathlib.Core.Path.{_≡_, sym, _∙_}
+use mathlib.Core.Path.{_≡_, refl, sym}
 use mathlib.Core.Bool.{Bool, true, false, true≢false}
 
 -- A yes or no that decides a rule.
@@ -13,9 +13,19 @@ pub decides-same : {answer : Bool} {Rule Other : Type 0} → (Rule → Other) �
 decides-same to from d = record { yes-holds = λ e. to (d .yes-holds e); no-fails = λ e o. d .no-fails e (from o) }
 
 -- Where the first part of a rule holds, its second part decides it.
-pub decides-second : {answer : Bool} {First Second Both : Type 0} → First → Decides answer Second → (First → Second → Both) → (Both → Second) → Decides answer Both
+pub decides-second : {answer : Bool} {First Second Both : Type 0} → First → Decides answer Second → (First → Second → Both)
+    → (Both → Second) → Decides answer Both
 decides-second f d join part = record { yes-holds = λ e. join f (d .yes-holds e); no-fails = λ e b. d .no-fails e (part b) }
 
 -- A rule that fails is decided by no.
 pub decides-no : {Rule : Type 0} → (Rule → ⊥) → Decides false Rule
 decides-no fails = record { yes-holds = λ e. absurd (true≢false (sym e)); no-fails = λ e r. fails r }
+
+-- A rule that holds is decided by yes.
+pub decides-yes : {Rule : Type 0} → Rule → Decides true Rule
+decides-yes holds = record { yes-holds = λ e. holds; no-fails = λ e r. true≢false e }
+
+-- A decided rule, without the answer.
+pub decided : {answer : Bool} {Rule : Type 0} → Decides answer Rule → Dec Rule
+decided {answer = true} d = yes (d .yes-holds refl)
+decided {answer = false} d = no (d .no-fails refl)

@@ -14,11 +14,8 @@ use Rattle.placing.specs.declared.units.Place.{Place}
 use Rattle.placing.specs.declared.units.Side.{Side}
 use Rattle.placing.specs.declared.units.Side.the-variants.{Number, Free}
 use Rattle.placing.specs.Units.{xOf, yOf, siteAt, Same, Distinct, greatestSide, freeSide}
+use Rattle.placing.specs.Decides.{Decides, decides-same, decides-no, decides-yes}
 use Rattle.placing.specs.Decide.{
-  Decides,
-  holds,
-  fails,
-  decides-same,
   le-decides,
   eq-decides,
   both-decide,
@@ -63,7 +60,7 @@ rows =
 abbrev sameTest : Place → Place → Bool
 sameTest s t = eqb (xOf s) (xOf t) && eqb (yOf s) (yOf t)
 
-same-decides : (s t : Place) → Decides (Same s t) (sameTest s t)
+same-decides : (s t : Place) → Decides (sameTest s t) (Same s t)
 same-decides s t =
     decides-same (λ r. record { same-x = r .0; same-y = r .1 }) (λ r. (r .same-x, r .same-y))
     (both-decide (eq-decides (xOf s) (xOf t)) (eq-decides (yOf s) (yOf t)))
@@ -72,7 +69,7 @@ same-decides s t =
 abbrev distinctTest : List Place → Bool
 distinctTest ps = allBelow (length ps) (λ i. allBelow (length ps) (λ j. not (not (eqb i j) && sameTest (siteAt ps i) (siteAt ps j))))
 
-distinct-decides : (ps : List Place) → Decides (Distinct ps) (distinctTest ps)
+distinct-decides : (ps : List Place) → Decides (distinctTest ps) (Distinct ps)
 distinct-decides ps =
     decides-same (λ r. record { distinct = λ i j a b d m. r i a j b (d, m) }) (λ r i a j b m. r .distinct i j a b (m .0) (m .1))
     (all-decides _ (length ps) (λ i.
@@ -86,10 +83,10 @@ equalTest [] (e ∷ es) = false
 equalTest (c ∷ cs) [] = false
 equalTest (c ∷ cs) (e ∷ es) = eqb c e && equalTest cs es
 
-equal-decides : (cs es : List ℕ) → Decides (cs ≡ es) (equalTest cs es)
-equal-decides [] [] = holds refl
-equal-decides [] (e ∷ es) = fails (λ p. let z : _≡_ {A = ℕ} 0 1 = cc in omega arith)
-equal-decides (c ∷ cs) [] = fails (λ p. let z : _≡_ {A = ℕ} 0 1 = cc in omega arith)
+equal-decides : (cs es : List ℕ) → Decides (equalTest cs es) (cs ≡ es)
+equal-decides [] [] = decides-yes refl
+equal-decides [] (e ∷ es) = decides-no (λ p. let z : _≡_ {A = ℕ} 0 1 = cc in omega arith)
+equal-decides (c ∷ cs) [] = decides-no (λ p. let z : _≡_ {A = ℕ} 0 1 = cc in omega arith)
 equal-decides (c ∷ cs) (e ∷ es) =
     decides-same (λ r i. r .0 i ∷ r .1 i) (λ p. (cc, cc)) (both-decide (eq-decides c e) (equal-decides cs es))
 
@@ -100,10 +97,10 @@ foundTest none (some cs) = false
 foundTest (some es) none = false
 foundTest (some es) (some cs) = equalTest es cs
 
-found-decides : (o w : Option (List ℕ)) → Decides (o ≡ w) (foundTest o w)
-found-decides none none = holds refl
-found-decides none (some cs) = fails (λ p. let z : _≡_ {A = ℕ} 0 1 = cc in omega arith)
-found-decides (some es) none = fails (λ p. let z : _≡_ {A = ℕ} 0 1 = cc in omega arith)
+found-decides : (o w : Option (List ℕ)) → Decides (foundTest o w) (o ≡ w)
+found-decides none none = decides-yes refl
+found-decides none (some cs) = decides-no (λ p. let z : _≡_ {A = ℕ} 0 1 = cc in omega arith)
+found-decides (some es) none = decides-no (λ p. let z : _≡_ {A = ℕ} 0 1 = cc in omega arith)
 found-decides (some es) (some cs) = decides-same (ap some) (λ p. cc) (equal-decides es cs)
 
 -- The pruned search finds these corners at 20,001, or at this side with nothing at the next.
@@ -121,9 +118,9 @@ rowsTest [] = true
 rowsTest (r ∷ rs) = rowTest r && rowsTest rs
 
 -- What a passed test decides.
-passed : {A : Type 0} {b : Bool} → Decides A b → T b → A
-passed (holds a) t = a
-passed (fails n) t = absurd t
+passed : {b : Bool} {A : Type 0} → Decides b A → T b → A
+passed {b = true} d t = d .yes-holds refl
+passed {b = false} d t = absurd t
 
 both-passed : (a b : Bool) → T (a && b) → T a × T b
 both-passed true b t = (tt, t)

@@ -7,6 +7,7 @@ pub mod Meet
 pub mod Common
 pub mod Crowd
 pub mod Choice
+pub mod Supremum
 pub mod TwoWays
 pub mod Decide
 pub mod Enumerate

@@ -1,7 +1,7 @@
 -- A search for the first good choice that a checker can run: site after site in list order, corners 1 to 4, without the corners
 -- that are crowded or meet the label of an earlier site.
 -- Assumes nothing.
-use mathlib.Core.Path.{_≡_, sym, subst, subst₂}
+use mathlib.Core.Path.{_≡_, refl, sym, subst, subst₂}
 use mathlib.Core.Bool.{Bool, true, false, not, _&&_}
 use mathlib.Core.List.{List, [], _∷_, _++_}
 use mathlib.Core.Logic.{_≢_}
@@ -16,11 +16,8 @@ use Rattle.placing.specs.Units.{siteAt}
 use Rattle.placing.specs.Meet.{Meet, meet-symmetric}
 use Rattle.placing.specs.Crowd.{Crowded}
 use Rattle.placing.specs.Choice.{cornerAt, Corners, Good}
+use Rattle.placing.specs.Decides.{Decides, decides-same}
 use Rattle.placing.specs.Decide.{
-  Decides,
-  holds,
-  fails,
-  decides-same,
   both-decide,
   not-decides,
   allBelow,
@@ -42,7 +39,7 @@ fitsTest h ps cs i =
     not (crowdedTest h ps i (cornerAt cs i))
     && allBelow i (λ j. not (meetTest h 1 (siteAt ps j) (cornerAt cs j) (siteAt ps i) (cornerAt cs i)))
 
-fits-decides : (h : ℕ) (ps : List Place) (cs : List ℕ) (i : ℕ) → Decides (Fits h ps cs i) (fitsTest h ps cs i)
+fits-decides : (h : ℕ) (ps : List Place) (cs : List ℕ) (i : ℕ) → Decides (fitsTest h ps cs i) (Fits h ps cs i)
 fits-decides h ps cs i =
     decides-same (λ r. record { uncrowded = r .0; apart = r .1 }) (λ r. (r .uncrowded, r .apart))
     (both-decide (not-decides (crowded-decides h ps i (cornerAt cs i)))
@@ -121,12 +118,12 @@ module _ (h : ℕ) (ps : List Place) where
       (λ c k. by-fit c (fitsTest h ps (before ++ c ∷ []) (length before)) (fits-decides h ps (before ++ c ∷ []) (length before))
       (goes-on n (before ++ c ∷ []) (omega (arith, one-more before c))))
     where
-      by-fit : (c : ℕ) (b : Bool) → Decides (Fits h ps (before ++ c ∷ []) (length before)) b
+      by-fit : (c : ℕ) (b : Bool) → Decides b (Fits h ps (before ++ c ∷ []) (length before))
           → FirstWith (λ cs. Corners n cs × FitsOn (before ++ c ∷ []) cs) (goOn h ps n (before ++ c ∷ []))
           → FirstWith (λ cs. Corners n cs × FitsOn before (c ∷ cs)) (elim b [ true ↦ goOn h ps n (before ++ c ∷ []) | false ↦ none ])
-      by-fit c true (holds fit) r =
-          first-with-same (λ cs p. (p .0, fits-then before c cs fit (p .1))) (λ cs p. (p .0, fits-rest before c cs (p .1))) r
-      by-fit c false (fails n) r = missing (λ cs p. n (fits-first before c cs (omega arith) (p .1)))
+      by-fit c true fit r =
+          first-with-same (λ cs p. (p .0, fits-then before c cs (fit .yes-holds refl) (p .1))) (λ cs p. (p .0, fits-rest before c cs (p .1))) r
+      by-fit c false fit r = missing (λ cs p. fit .no-fails refl (fits-first before c cs (omega arith) (p .1)))
 
   -- The pruned search finds the first good choice.
   pub pruned-first : FirstWith (Good h ps) (prunedFirst h ps)

@@ -3,8 +3,7 @@
 -- Assumes nothing.
 use mathlib.Core.Path.{_≡_}
 use mathlib.Core.Logic.{_≢_, _⊎_}
-use Prim.Native.Nat.{ℕ, _<_, _≤_}
-use Rattle.placing.specs.Corner.{Corner}
+use Prim.Native.Nat.{ℕ, _<_}
 use Rattle.placing.specs.Problem.{Problem, Solution}
 
 -- Two different corners of site i are open.

@@ -17,7 +17,8 @@ use Rattle.placing.specs.Corner.{alongX, alongY}
 use Rattle.placing.specs.Meet.{Overlap, Meet, meet-larger}
 use Rattle.placing.specs.Crowd.{Ahead, DoubledCovers}
 use Rattle.placing.specs.Choice.{cornerAt, Corners, Good}
-use Rattle.placing.specs.Decide.{Decides, decided, decides-same, someBelow, some-decides, pairTest, pair-decides}
+use Rattle.placing.specs.Decides.{Decides, decides-same, decided}
+use Rattle.placing.specs.Decide.{someBelow, some-decides, pairTest, pair-decides}
 use Rattle.placing.specs.Answer.{numbered, IsAnswer, is-number}
 
 -- The labels of some two sites meet at the side p/q.
@@ -33,7 +34,7 @@ pub record MeetingPair (p q : ℕ) (ps : List Place) (cs : List ℕ) : Type 0 wh
 abbrev pub meetingTest : (p q : ℕ) → List Place → List ℕ → Bool
 meetingTest p q ps cs = someBelow (length ps) (λ i. someBelow (length ps) (pairTest p q ps cs i))
 
-pub meeting-decides : (p q : ℕ) (ps : List Place) (cs : List ℕ) → Decides (MeetingPair p q ps cs) (meetingTest p q ps cs)
+pub meeting-decides : (p q : ℕ) (ps : List Place) (cs : List ℕ) → Decides (meetingTest p q ps cs) (MeetingPair p q ps cs)
 meeting-decides p q ps cs =
     decides-same
     (λ s.

@@ -74,14 +74,6 @@ acrossX c = cornerToward (opposite (alongX c)) (alongY c)
 abbrev pub acrossY : ℕ → ℕ
 acrossY c = cornerToward (alongX c) (opposite (alongY c))
 
--- Across x the direction along x turns round and the one along y stays ..
-pub across-x : (c : ℕ) → (alongX (acrossX c) ≡ opposite (alongX c)) × (alongY (acrossX c) ≡ alongY c)
-across-x c = (toward-x (opposite (alongX c)) (alongY c), toward-y (opposite (alongX c)) (alongY c))
-
--- .. and across y the other way round.
-pub across-y : (c : ℕ) → (alongX (acrossY c) ≡ alongX c) × (alongY (acrossY c) ≡ opposite (alongY c))
-across-y c = (toward-x (alongX c) (opposite (alongY c)), toward-y (alongX c) (opposite (alongY c)))
-
 -- A test holds at every corner, as one computed test.
 abbrev everyCorner : (ℕ → Bool) → Bool
 everyCorner t = t 1 && (t 2 && (t 3 && t 4))

@@ -12,3 +12,7 @@ pub mod Calls
 pub mod ReadOff
 pub mod Output
 pub mod Demands
+pub mod NameRead
+pub mod Coordinate
+pub mod Put
+pub mod Taken

@@ -1,9 +1,22 @@
 // A plan: the sites of one level in list order and, once it is placed, its answer.
+use crate::name::same_name;
 use crate::name::Name;
 use crate::refusal::Outcome;
 use crate::refusal::Refusal;
+use placing::units::Limits;
 use placing::units::Place;
 use placing::units::Side;
+use placing::units::Units;
+ghost use mathlib.Core.Path.{_≡_};
+ghost use mathlib.Core.Bool.{true};
+ghost use Prim.Native.Nat.{_≤_};
+ghost use lib.ListN.{length};
+ghost use Rattle.placing.specs.Units.{OnPlan};
+ghost use Rattle.plan.specs.Name.{isName, bytesOf, nameOf};
+ghost use Rattle.plan.specs.Enter.{appended};
+ghost use Rattle.plan.specs.Plan.{sitesIn, Valid};
+ghost use Rattle.plan.specs.Calls.{started, plannedOr};
+ghost use Rattle.plan.specs.Taken.{NamesHeld, namesTaken, placesTaken, siteOf};
 
 // Slots past the count hold nothing: a name of no bytes, the place 0, 0 and corner 0. While a plan is not placed, its side is
 // free and its corners are 0.
@@ -38,4 +51,97 @@ pub enum AskedCorner {
 pub enum Written {
     Bytes(usize),
     NotWritten(Refusal),
+}
+
+impl Plan {
+    // The plan of no sites.
+    pub fn start() -> Plan
+        ensures { λ r. ⌜ r ≡ started ⌝ }
+    {
+        let none = Name::none();
+        let nowhere = Place {
+            x: Units(0),
+            y: Units(0),
+        };
+        Plan {
+            count: 0,
+            names: [none; 240],
+            places: [nowhere; 240],
+            placed: false,
+            side: Side::Free,
+            corners: [0u8; 240],
+        }
+    }
+}
+
+// A refusal, with the plan as it came.
+pub fn refuse(plan: Plan, why: Refusal) -> Planned
+    ensures { λ r. ⌜ r ≡ record { outcome = Outcome.Refused why; plan = plan } ⌝ }
+{
+    let outcome = Outcome::Refused(why);
+    Planned { outcome, plan }
+}
+
+// Whether one of the first `n` names is this one.
+fn name_taken(names: [Name; 240], n: usize, name: Name) -> bool
+    requires { ⌜ (n ≤ 240) × NamesHeld n names × (name .len ≤ 8) ⌝ }
+    ensures { λ r. ⌜ r ≡ namesTaken n names (bytesOf name) ⌝ }
+{
+    for i in 0..n {
+        let other = names[i];
+        if same_name(other, name) {
+            return true;
+        }
+    }
+    false
+}
+
+// Whether one of the first `n` places is this one.
+fn place_taken(places: [Place; 240], n: usize, place: Place) -> bool
+    requires { ⌜ n ≤ 240 ⌝ }
+    ensures { λ r. ⌜ r ≡ placesTaken n places place ⌝ }
+{
+    for i in 0..n {
+        let other = places[i];
+        if other.x.0 == place.x.0 {
+            if other.y.0 == place.y.0 {
+                return true;
+            }
+        }
+    }
+    false
+}
+
+// The plan with one site more: tests 7, 4, 5. The plan is not placed afterwards.
+pub fn append(plan: Plan, name: Name, place: Place) -> Planned
+    requires { ⌜ Valid plan × (name ≡ nameOf (bytesOf name)) × (isName (bytesOf name) ≡ true) × OnPlan place ⌝ }
+    ensures answer { λ r. ⌜ r ≡ plannedOr plan (appended (sitesIn plan) (siteOf name place)) ⌝ }
+    ensures valid { λ r. ⌜ Valid (r .plan) ⌝ }
+{
+    let n = plan.count;
+    if n >= Limits::SITES {
+        return refuse(plan, Refusal::Full);
+    }
+    let mut names = plan.names;
+    if name_taken(names, n, name) {
+        return refuse(plan, Refusal::NameTaken);
+    }
+    let mut places = plan.places;
+    if place_taken(places, n, place) {
+        return refuse(plan, Refusal::PlaceTaken);
+    }
+    names[n] = name;
+    places[n] = place;
+    let more = Plan {
+        count: n + 1,
+        names,
+        places,
+        placed: false,
+        side: Side::Free,
+        corners: [0u8; 240],
+    };
+    Planned {
+        outcome: Outcome::Done,
+        plan: more,
+    }
 }

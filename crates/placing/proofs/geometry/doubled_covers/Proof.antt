@@ -1,4 +1,4 @@
-use Rattle.placing.specs.Decides.{decides-same, decides-second, decides-no}
+use Rattle.placing.specs.Decides.{decides-second, decides-no}
 use borrow.Author.Needs.{needs}
 use Rattle.placing.proofs.geometry.doubled_covers.Statement.{statement}
 use Rattle.placing.proofs.geometry.doubled_covers.Tie as tie

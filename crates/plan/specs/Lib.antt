@@ -16,3 +16,5 @@ pub mod NameRead
 pub mod Coordinate
 pub mod Put
 pub mod Taken
+pub mod Line
+pub mod SheetParts

@@ -1,9 +1,14 @@
 -- Document 01: what the placing program writes for a list, whole.
 -- Assumes nothing.
+use mathlib.Core.Bool.{Bool, true, false}
 use mathlib.Core.List.{List, [], _∷_, _++_}
 use Prim.Native.Nat.{ℕ}
+use lib.Dec.{ltb}
+use lib.ListN.{length}
+use Rattle.plan.specs.declared.plan.Written.{Written}
+use Rattle.plan.specs.declared.plan.Written.the-variants.{Bytes, NotWritten}
 use Rattle.plan.specs.declared.refusal.Refusal.{Refusal}
-use Rattle.plan.specs.declared.refusal.Refusal.the-variants.{NoSites}
+use Rattle.plan.specs.declared.refusal.Refusal.the-variants.{NoSites, ShortBuffer}
 use Rattle.plan.specs.Refusal.{numberOf}
 use Rattle.plan.specs.Text.{tab, lineFeed}
 use Rattle.plan.specs.Number.{decimal}
@@ -11,6 +16,7 @@ use Rattle.plan.specs.Site.{Site}
 use Rattle.plan.specs.Enter.{Sites, accepted, refused}
 use Rattle.plan.specs.List.{readList}
 use Rattle.plan.specs.Sheet.{sheetOf}
+use Rattle.plan.specs.Calls.{filledWhere}
 
 -- The word refused.
 abbrev pub refusedWord : List ℕ
@@ -29,3 +35,21 @@ outputFor (refused why) = refusalLine why
 -- The output for a text.
 pub outputOf : List ℕ → List ℕ
 outputOf text = outputFor (readList text)
+
+-- Into a buffer: the output's length, or 10 where the buffer is shorter.
+abbrev pub outputWhere : (short : Bool) → List ℕ → Written
+outputWhere true output = NotWritten ShortBuffer
+outputWhere false output = Bytes (length output)
+
+abbrev pub outputWritten : List ℕ → List ℕ → Written
+outputWritten text buffer = outputWhere (ltb (length buffer) (length (outputOf text))) (outputOf text)
+
+abbrev pub outputAfter : List ℕ → List ℕ → List ℕ
+outputAfter text buffer = filledWhere (outputWritten text buffer) (outputOf text) buffer
+
+-- The same for the line of a refusal alone.
+abbrev pub refusalWritten : Refusal → List ℕ → Written
+refusalWritten why buffer = outputWhere (ltb (length buffer) (length (refusalLine why))) (refusalLine why)
+
+abbrev pub refusalAfter : Refusal → List ℕ → List ℕ
+refusalAfter why buffer = filledWhere (refusalWritten why buffer) (refusalLine why) buffer

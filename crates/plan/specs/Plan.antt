@@ -1,10 +1,12 @@
 -- Document 01, "Calls on a plan": what a plan's record holds. "A plan is what these calls hand back, kept or copied but never
 -- patched by hand."
 -- Assumes nothing.
+use mathlib.Core.Path.{_≡_, refl, ap₂}
 use mathlib.Core.Bool.{true, false}
 use mathlib.Core.List.{List, [], _∷_, _++_, map}
 use Prim.Native.Nat.{ℕ, zero, suc, _-_, _≤_}
-use lib.ListN.{length, take, replicate}
+use lib.ListN.{length, take, replicate, length-map}
+use lib.Seq.{take-append-seam, take-at}
 use Rattle.placing.specs.declared.side.Placed.{Placed}
 use Rattle.placing.specs.declared.units.Place.{Place}
 use Rattle.placing.specs.declared.units.Side.the-variants.{Free}
@@ -14,7 +16,7 @@ use Rattle.placing.specs.Placed.{placedAs}
 use Rattle.plan.specs.declared.name.Name.{Name}
 use Rattle.plan.specs.declared.plan.Plan.{Plan}
 use Rattle.plan.specs.Name.{nameOf, bytesOf}
-use Rattle.plan.specs.Site.{Site, nameIn, placesOf, Listed}
+use Rattle.plan.specs.Site.{Site, nameIn, placeOf, placesOf, Listed}
 
 -- The record of a name, of a site.
 abbrev pub nameRecord : Site → Name
@@ -60,6 +62,32 @@ sitesFrom (name ∷ names) (place ∷ places) = record { name = bytesOf name; pl
 -- The sites that a plan holds.
 pub sitesIn : Plan → List Site
 sitesIn plan = sitesFrom (take (plan .count) (plan .names)) (take (plan .count) (plan .places))
+
+-- Side by side, the names and places of some sites are these sites.
+sites-side-by-side : (sites : List Site) → sitesFrom (map nameRecord sites) (placesOf sites) ≡ sites
+unfolding sitesFrom
+sites-side-by-side [] = refl
+sites-side-by-side (site ∷ sites) =
+    ap₂ (λ (name : List ℕ) (rest : List Site). record { name = name; place = site .place } ∷ rest)
+    (take-append-seam (site .name) (replicate (8 - length (site .name)) 0)) (sites-side-by-side sites)
+
+-- So what is held of some sites, the empty slots left out, is these sites.
+sites-held : (sites : List Site) → sitesFrom (take (length sites) (namesHeld sites)) (take (length sites) (placesHeld sites)) ≡ sites
+sites-held sites =
+    rw (
+      take-at (map nameRecord sites) (replicate (240 - length sites) (nameOf [])) (length sites) (length-map sites nameRecord),
+      take-at (placesOf sites) (replicate (240 - length sites) nowhere) (length sites) (length-map sites placeOf),
+    )
+    (sites-side-by-side sites)
+
+-- The plan of some sites holds them, while it is not placed and once it is.
+pub sites-unplaced : (sites : List Site) → Listed sites → sitesIn (unplaced sites) ≡ sites
+unfolding unplaced sitesIn
+sites-unplaced sites listed = sites-held sites
+
+pub sites-placed : (sites : List Site) → Listed sites → sitesIn (placed sites) ≡ sites
+unfolding placed sitesIn
+sites-placed sites listed = sites-held sites
 
 -- A plan that the calls hand back.
 pub data Valid : Plan → Type 0 where

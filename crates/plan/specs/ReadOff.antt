@@ -1,13 +1,15 @@
 -- What demand 3 counts, and the list that a sheet carries: read off the bytes of a sheet, with no plan at hand.
 -- Assumes nothing.
+use mathlib.Core.Path.{_≡_, refl}
 use mathlib.Core.Bool.{true, false}
 use mathlib.Core.List.{List, [], _∷_, _++_}
 use mathlib.Core.Option.{Option, some, none}
 use Prim.Native.Nat.{ℕ}
 use lib.Dec.{eqb}
+use borrow.Author.Tests.{ne-eqb}
 use Rattle.placing.specs.declared.units.Place.{Place}
 use Rattle.placing.specs.Units.{nowhere}
-use Rattle.plan.specs.Text.{tab, lineFeed, withFirst, fieldsOf}
+use Rattle.plan.specs.Text.{tab, lineFeed, withFirst, fieldsOf, Without}
 use Rattle.plan.specs.Number.{numberIn}
 use Rattle.plan.specs.Site.{placeAt}
 
@@ -15,6 +17,12 @@ use Rattle.plan.specs.Site.{placeAt}
 pub linesOf : List ℕ → List (List ℕ)
 linesOf [] = []
 linesOf (b ∷ text) = elim (eqb b lineFeed) [ true ↦ [] ∷ linesOf text | false ↦ withFirst b (linesOf text) ]
+
+-- A text without a line feed, then a line feed, is the first line.
+pub lines-more : (line rest : List ℕ) → Without lineFeed line → linesOf (line ++ (lineFeed ∷ rest)) ≡ line ∷ linesOf rest
+unfolding linesOf
+lines-more [] rest no-feed = refl
+lines-more (b ∷ line) rest no-feed = rw (ne-eqb b lineFeed (no-feed .0), lines-more line rest (no-feed .1), linesOf)
 
 -- The second field of a line.
 abbrev pub secondField : List (List ℕ) → List ℕ

@@ -1,1 +1,128 @@
-// to come
+// Reading a list: one site a line, name, x, y, parted by one tab each.
+use crate::name::name_from;
+use crate::number::coordinate_from;
+use crate::number::Coordinate;
+use crate::plan::append;
+use crate::plan::refuse;
+use crate::plan::Plan;
+use crate::plan::Planned;
+use crate::refusal::Outcome;
+use crate::refusal::Refusal;
+use placing::units::Place;
+ghost use mathlib.Core.Path.{_≡_};
+ghost use mathlib.Core.List.{[], _∷_};
+ghost use Prim.Native.Nat.{_≤_};
+ghost use lib.ListN.{length, drop};
+ghost use Rattle.plan.specs.Text.{firstLine};
+ghost use Rattle.plan.specs.List.{enteredFields, enteredLine};
+ghost use Rattle.plan.specs.Plan.{sitesIn, Valid};
+ghost use Rattle.plan.specs.Calls.{plannedOr, readFrom};
+ghost use Rattle.plan.specs.Line.{lineEnd, FieldEnd};
+
+// Where a line ends: the place of its line feed, if it has one in time.
+pub enum LineEnd {
+    At(usize),
+    Missing,
+}
+
+// The end of the line that starts at `at`: a line feed among its first 21 bytes.
+fn line_end(text: &[u8], at: usize) -> LineEnd
+    requires { ⌜ at ≤ length (now text) ⌝ }
+    ensures { λ r. ⌜ r ≡ lineEnd at (firstLine (drop at (now (text .entry)))) ⌝ }
+{
+    for i in 0..21 {
+        if text.len() - at <= i {
+            return LineEnd::Missing;
+        }
+        if text[at + i] == 10 {
+            return LineEnd::At(at + i);
+        }
+    }
+    LineEnd::Missing
+}
+
+// The first tab from `at` on, or the line's length.
+fn field_end(line: &[u8], at: usize) -> usize
+    requires { ⌜ at ≤ length (now line) ⌝ }
+    ensures { λ r. ⌜ FieldEnd (now (line .entry)) at r ⌝ }
+{
+    let mut k = at;
+    while k < line.len() {
+        if line[k] == 9 {
+            return k;
+        }
+        k += 1;
+    }
+    k
+}
+
+// Enters three fields: tests 2, 3, then those of appending.
+fn enter_fields(plan: Plan, name: &[u8], x: &[u8], y: &[u8]) -> Planned
+    requires { ⌜ Valid plan ⌝ }
+    ensures answer { λ r. ⌜ r ≡ plannedOr plan (enteredFields (sitesIn plan)
+      (now (name .entry) ∷ now (x .entry) ∷ now (y .entry) ∷ [])) ⌝ }
+    ensures valid { λ r. ⌜ Valid (r .plan) ⌝ }
+{
+    let named = name_from(name);
+    if !named.ok {
+        return refuse(plan, Refusal::Name);
+    }
+    let Coordinate::At(across) = coordinate_from(x) else {
+        return refuse(plan, Refusal::Coordinate);
+    };
+    let Coordinate::At(up) = coordinate_from(y) else {
+        return refuse(plan, Refusal::Coordinate);
+    };
+    let site = named.name;
+    append(plan, site, Place { x: across, y: up })
+}
+
+// Enters a line, without its line feed: test 1 for its fields, then theirs.
+fn enter_line(plan: Plan, line: &[u8]) -> Planned
+    requires { ⌜ Valid plan ⌝ }
+    ensures answer { λ r. ⌜ r ≡ plannedOr plan (enteredLine (sitesIn plan) (now (line .entry))) ⌝ }
+    ensures valid { λ r. ⌜ Valid (r .plan) ⌝ }
+{
+    let n = line.len();
+    let first = field_end(line, 0);
+    if first == n {
+        return refuse(plan, Refusal::Line);
+    }
+    let from_x = first + 1;
+    let second = field_end(line, from_x);
+    if second == n {
+        return refuse(plan, Refusal::Line);
+    }
+    let from_y = second + 1;
+    let third = field_end(line, from_y);
+    if third != n {
+        return refuse(plan, Refusal::Line);
+    }
+    enter_fields(plan, &line[..first], &line[from_x..second], &line[from_y..])
+}
+
+// Reads a whole list into a fresh plan, or refuses it at its first refused line.
+pub fn read(text: &[u8]) -> Planned
+    ensures answer { λ r. ⌜ r ≡ readFrom (now (text .entry)) ⌝ }
+    ensures valid { λ r. ⌜ Valid (r .plan) ⌝ }
+{
+    let mut plan = Plan::start();
+    let mut at = 0;
+    while at < text.len() {
+        let LineEnd::At(end) = line_end(text, at) else {
+            return refuse(Plan::start(), Refusal::Line);
+        };
+        let entered = enter_line(plan, &text[at..end]);
+        let outcome = entered.outcome;
+        if let Outcome::Refused(why) = outcome {
+            return refuse(Plan::start(), why);
+        }
+        let more = entered.plan;
+        plan = more;
+        at = end + 1;
+    }
+    Planned {
+        outcome: Outcome::Done,
+        plan,
+    }
+}

@@ -1,1 +1,53 @@
-// to come
+// The whole way from a list to the bytes that the placing program writes.
+use crate::calls::place;
+use crate::list::read;
+use crate::plan::Written;
+use crate::put::put_byte;
+use crate::put::put_bytes;
+use crate::put::put_decimal;
+use crate::refusal::number_of;
+use crate::refusal::Outcome;
+use crate::refusal::Refusal;
+use crate::sheet::write;
+ghost use mathlib.Core.Path.{_≡_};
+ghost use Rattle.plan.specs.Output.{outputWritten, outputAfter, refusalWritten, refusalAfter};
+ghost use Rattle.plan.specs.Demands.{SheetFor};
+
+// Writes the word refused, a tab, the number and a line feed, where there is room.
+fn write_refusal(why: Refusal, buffer: &mut [u8]) -> Written
+    ensures answer { λ r. ⌜ r ≡ refusalWritten why (now (buffer .entry)) ⌝ }
+    ensures buffer { λ r. ⌜ now (buffer .exit) ≡ refusalAfter why (now (buffer .entry)) ⌝ }
+{
+    let mut line = [0u8; 16];
+    let number = number_of(why);
+    let word = put_bytes(&mut line, 0, b"refused\t", 8);
+    let digits = put_decimal(&mut line, word, number as u32);
+    let n = put_byte(&mut line, digits, 10);
+    if buffer.len() < n {
+        return Written::NotWritten(Refusal::ShortBuffer);
+    }
+    put_bytes(buffer, 0, &line, n);
+    Written::Bytes(n)
+}
+
+// The output for a list: its sheet, or the line of its refusal. It lends placing a work table of its own.
+pub fn output(text: &[u8], buffer: &mut [u8]) -> Written
+    ensures answer { λ r. ⌜ r ≡ outputWritten (now (text .entry)) (now (buffer .entry)) ⌝ }
+    ensures buffer { λ r. ⌜ now (buffer .exit) ≡ outputAfter (now (text .entry)) (now (buffer .entry)) ⌝ }
+    ensures demands { λ r. ⌜ SheetFor (now (text .entry)) r (now (buffer .exit)) ⌝ }
+{
+    let listed = read(text);
+    let reading = listed.outcome;
+    if let Outcome::Refused(why) = reading {
+        return write_refusal(why, buffer);
+    }
+    let mut table = [0u8; 57600];
+    let level = listed.plan;
+    let placed = place(level, &mut table);
+    let placing = placed.outcome;
+    if let Outcome::Refused(why) = placing {
+        return write_refusal(why, buffer);
+    }
+    let plan = placed.plan;
+    write(plan, buffer)
+}

@@ -1,1 +1,86 @@
-// to come
+// Writing the sheet of a placed plan.
+use crate::name::Name;
+use crate::plan::Plan;
+use crate::plan::Written;
+use crate::put::put_byte;
+use crate::put::put_bytes;
+use crate::put::put_decimal;
+use crate::put::put_name;
+use crate::refusal::Refusal;
+use placing::units::Place;
+use placing::units::Side;
+ghost use mathlib.Core.Path.{_≡_};
+ghost use mathlib.Core.Bool.{true};
+ghost use Prim.Native.Nat.{_+_, _≤_};
+ghost use lib.ListN.{length};
+ghost use Rattle.placing.specs.Units.{OnPlan};
+ghost use Rattle.placing.specs.Corner.{Corner};
+ghost use Rattle.plan.specs.Sheet.{sheetOf};
+ghost use Rattle.plan.specs.Plan.{sitesIn, Valid};
+ghost use Rattle.plan.specs.Calls.{written, bufferAfter};
+ghost use Rattle.plan.specs.Taken.{siteOf};
+ghost use Rattle.plan.specs.Put.{Put};
+ghost use Rattle.plan.specs.SheetParts.{sideLine, siteLine, SideSmall};
+ghost use Rattle.plan.specs.Demands.{NoRivalIn};
+
+// The first line: the word side, a tab and the side.
+fn put_side(out: &mut [u8], side: Side) -> usize
+    requires { ⌜ SideSmall side × (11 ≤ length (now out)) ⌝ }
+    ensures { λ r. ⌜ Put (now (out .entry)) 0 (sideLine side) r (now (out .exit)) ⌝ }
+{
+    let word = put_bytes(out, 0, b"side\t", 5);
+    let end = match side {
+        Side::Number(h) => put_decimal(out, word, h.0),
+        Side::Free => put_bytes(out, word, b"free", 4),
+    };
+    put_byte(out, end, 10)
+}
+
+// The line of a site: name, x, y, corner.
+fn put_site(out: &mut [u8], at: usize, name: Name, place: Place, corner: u8) -> usize
+    requires { ⌜ (name .len ≤ 8) × OnPlan place × Corner corner × (at + 23 ≤ length (now out)) ⌝ }
+    ensures { λ r. ⌜ Put (now (out .entry)) at (siteLine (siteOf name place) corner) r (now (out .exit)) ⌝ }
+{
+    let after_name = put_name(out, at, name);
+    let from_x = put_byte(out, after_name, 9);
+    let after_x = put_decimal(out, from_x, place.x.0);
+    let from_y = put_byte(out, after_x, 9);
+    let after_y = put_decimal(out, from_y, place.y.0);
+    let from_corner = put_byte(out, after_y, 9);
+    let after_corner = put_decimal(out, from_corner, corner as u32);
+    put_byte(out, after_corner, 10)
+}
+
+// The whole sheet of a placed plan, from the first byte on. No sheet is longer than 11 + 240 × 23 bytes.
+fn compose(plan: Plan, out: &mut [u8]) -> usize
+    requires { ⌜ Valid plan × (plan .placed ≡ true) × (5531 ≤ length (now out)) ⌝ }
+    ensures { λ r. ⌜ Put (now (out .entry)) 0 (sheetOf (sitesIn plan)) r (now (out .exit)) ⌝ }
+{
+    let side = plan.side;
+    let mut at = put_side(out, side);
+    for i in 0..plan.count {
+        let name = plan.names[i];
+        let place = plan.places[i];
+        at = put_site(out, at, name, place, plan.corners[i]);
+    }
+    at
+}
+
+// Writes the sheet into the buffer: tests 9, 10.
+pub fn write(plan: Plan, buffer: &mut [u8]) -> Written
+    requires { ⌜ Valid plan ⌝ }
+    ensures answer { λ r. ⌜ r ≡ written plan (now (buffer .entry)) ⌝ }
+    ensures buffer { λ r. ⌜ now (buffer .exit) ≡ bufferAfter plan (now (buffer .entry)) ⌝ }
+    ensures rivals { λ r. ⌜ NoRivalIn r (now (buffer .exit)) ⌝ }
+{
+    if !plan.placed {
+        return Written::NotWritten(Refusal::NotPlaced);
+    }
+    let mut sheet = [0u8; 5531];
+    let n = compose(plan, &mut sheet);
+    if buffer.len() < n {
+        return Written::NotWritten(Refusal::ShortBuffer);
+    }
+    put_bytes(buffer, 0, &sheet, n);
+    Written::Bytes(n)
+}

@@ -3,9 +3,11 @@ pub mod Refusal
 pub mod Text
 pub mod Number
 pub mod Name
+pub mod OneMore
 pub mod Site
 pub mod Enter
 pub mod List
+pub mod Longer
 pub mod Sheet
 pub mod Plan
 pub mod Calls

@@ -14,7 +14,7 @@ pub mod Enumerate
 pub mod Answer
 pub mod Twice
 pub mod Prune
-pub mod Known
+pub mod Checked
 pub mod Sites
 pub mod Crowding
 pub mod Problem

@@ -28,7 +28,7 @@ refusedIf true why otherwise = refused why
 refusedIf false why otherwise = otherwise
 
 -- One site more, by the tests 7, 4, 5.
-pub appended : List Site → Site → Sites
+unfoldable pub appended : List Site → Site → Sites
 appended sites site =
     refusedIf (leb 240 (length sites)) Full
     (refusedIf (nameTaken sites (site .name)) NameTaken
@@ -36,7 +36,7 @@ appended sites site =
     (accepted (sites ++ (site ∷ [])))))
 
 -- Entering a name and two numbers: 2, 3, then 7, 4, 5.
-pub entered : List Site → List ℕ → ℕ → ℕ → Sites
+unfoldable pub entered : List Site → List ℕ → ℕ → ℕ → Sites
 entered sites name x y =
     refusedIf (not (isName name)) Name
     (refusedIf (not (leb x greatestCoordinate && leb y greatestCoordinate)) Coordinate

@@ -20,3 +20,5 @@ pub mod Put
 pub mod Taken
 pub mod Line
 pub mod SheetParts
+pub mod SheetLaws
+pub mod Known

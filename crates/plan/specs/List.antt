@@ -64,10 +64,10 @@ pub readList : List ℕ → Sites
 readList text = readLines (length text) [] text
 
 -- The list of some sites as text: name, x, y.
-pub listLine : Site → List ℕ
+unfoldable pub listLine : Site → List ℕ
 listLine site = site .name ++ (tab ∷ decimal (xOf (site .place))) ++ (tab ∷ decimal (yOf (site .place)))
 
-pub listText : List Site → List ℕ
+unfoldable pub listText : List Site → List ℕ
 listText [] = []
 listText (site ∷ sites) = listLine site ++ (lineFeed ∷ listText sites)
 
@@ -159,7 +159,7 @@ module _ (site : Site) (rules : ByRules site) where
       )
 
   -- It holds no line feed.
-  line-without : Without lineFeed (listLine site)
+  pub line-without : Without lineFeed (listLine site)
   unfolding listLine
   line-without =
       without-append lineFeed (site .name ++ (tab ∷ decimal (xOf (site .place)))) (tab ∷ decimal (yOf (site .place)))

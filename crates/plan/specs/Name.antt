@@ -17,12 +17,12 @@ abbrev pub nameByte : ℕ → Bool
 nameByte b = (leb 65 b && leb b 90) || ((leb 48 b && leb b 57) || eqb b 45)
 
 -- All bytes are of a name.
-pub nameBytes : List ℕ → Bool
+unfoldable pub nameBytes : List ℕ → Bool
 nameBytes [] = true
 nameBytes (b ∷ bytes) = nameByte b && nameBytes bytes
 
 -- The rule for a name.
-pub isName : List ℕ → Bool
+unfoldable pub isName : List ℕ → Bool
 isName bytes = (leb 1 (length bytes) && leb (length bytes) 8) && nameBytes bytes
 
 -- Both of two tests.
@@ -70,7 +70,7 @@ pub name-short : (bytes : List ℕ) → isName bytes ≡ true → length bytes �
 name-short bytes e = name-length bytes e .1
 
 -- Two names are the same.
-pub sameBytes : List ℕ → List ℕ → Bool
+unfoldable pub sameBytes : List ℕ → List ℕ → Bool
 sameBytes [] [] = true
 sameBytes [] (c ∷ other) = false
 sameBytes (b ∷ bytes) [] = false

@@ -21,13 +21,13 @@ abbrev pub zeroDigit : ℕ
 zeroDigit = 48
 
 -- The number that these digits append to n, if all are digits.
-pub digitsAfter : ℕ → List ℕ → Option ℕ
+unfoldable pub digitsAfter : ℕ → List ℕ → Option ℕ
 digitsAfter n [] = some n
 digitsAfter n (b ∷ bytes) =
     elim (leb zeroDigit b && leb b 57) [ true ↦ digitsAfter (n * 10 + (b - zeroDigit)) bytes | false ↦ none ]
 
 -- The number that a text writes, if it writes one.
-pub numberIn : List ℕ → Option ℕ
+unfoldable pub numberIn : List ℕ → Option ℕ
 numberIn [] = none
 numberIn (b ∷ []) = digitsAfter 0 (b ∷ [])
 numberIn (b ∷ c ∷ bytes) = elim (eqb b zeroDigit) [ true ↦ none | false ↦ digitsAfter 0 (b ∷ c ∷ bytes) ]

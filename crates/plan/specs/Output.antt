@@ -1,8 +1,10 @@
 -- Document 01: what the placing program writes for a list, whole.
 -- Assumes nothing.
+use mathlib.Core.Path.{_≡_, refl, ap, _∙_}
 use mathlib.Core.Bool.{Bool, true, false}
 use mathlib.Core.List.{List, [], _∷_, _++_}
-use Prim.Native.Nat.{ℕ}
+use Prim.Native.Nat.{ℕ, _≤_}
+use native.Mathlib.Omega.{arith}
 use lib.Dec.{ltb}
 use lib.ListN.{length}
 use Rattle.plan.specs.declared.plan.Written.{Written}
@@ -35,6 +37,15 @@ outputFor (refused why) = refusalLine why
 -- The output for a text.
 pub outputOf : List ℕ → List ℕ
 outputOf text = outputFor (readList text)
+
+-- The output for a text that is read as some sites is their sheet.
+pub output-sheet : (text : List ℕ) (sites : List Site) → readList text ≡ accepted sites → 1 ≤ length sites → outputOf text ≡ sheetOf sites
+unfolding outputOf
+output-sheet text sites read nonempty = ap outputFor read ∙ of-some sites nonempty
+  where
+    of-some : (sites : List Site) → 1 ≤ length sites → outputFor (accepted sites) ≡ sheetOf sites
+    of-some [] nonempty = absurd (omega arith)
+    of-some (site ∷ sites) nonempty = refl
 
 -- Into a buffer: the output's length, or 10 where the buffer is shorter.
 abbrev pub outputWhere : (short : Bool) → List ℕ → Written

@@ -1,7 +1,7 @@
 -- Document 01, "Calls on a plan": what a plan's record holds. "A plan is what these calls hand back, kept or copied but never
 -- patched by hand."
 -- Assumes nothing.
-use mathlib.Core.Path.{_≡_, refl, ap₂}
+use mathlib.Core.Path.{_≡_, refl, ap, ap₂, _∙_}
 use mathlib.Core.Bool.{true, false}
 use mathlib.Core.List.{List, [], _∷_, _++_, map}
 use Prim.Native.Nat.{ℕ, zero, suc, _-_, _≤_}
@@ -10,13 +10,14 @@ use lib.Seq.{take-append-seam, take-at}
 use Rattle.placing.specs.declared.side.Placed.{Placed}
 use Rattle.placing.specs.declared.units.Place.{Place}
 use Rattle.placing.specs.declared.units.Side.the-variants.{Free}
-use Rattle.placing.specs.Units.{nowhere}
-use Rattle.placing.specs.Answer.{answerOf}
+use Rattle.placing.specs.Units.{nowhere, Distinct}
+use Rattle.placing.specs.Answer.{Answer, answerOf, answer-is}
 use Rattle.placing.specs.Placed.{placedAs}
 use Rattle.plan.specs.declared.name.Name.{Name}
 use Rattle.plan.specs.declared.plan.Plan.{Plan}
 use Rattle.plan.specs.Name.{nameOf, bytesOf}
 use Rattle.plan.specs.Site.{Site, nameIn, placeOf, placesOf, Listed}
+use Rattle.plan.specs.Sheet.{answer-corners}
 
 -- The record of a name, of a site.
 abbrev pub nameRecord : Site → Name
@@ -93,3 +94,15 @@ sites-placed sites listed = sites-held sites
 pub data Valid : Plan → Type 0 where
   is-unplaced : (sites : List Site) → Listed sites → Valid (unplaced sites)
   is-placed : (sites : List Site) → Listed sites → 1 ≤ length sites → Valid (placed sites)
+
+-- The answer that a placed plan holds: its side, and a corner for each site.
+abbrev pub answerIn : Plan → Answer
+answerIn plan = record { side = plan .side; corners = take (plan .count) (plan .corners) }
+
+-- It is the answer for the places of its sites.
+pub placed-answer : (sites : List Site) → Distinct (placesOf sites) → answerIn (placed sites) ≡ answerOf (placesOf sites)
+unfolding placed
+placed-answer sites distinct =
+    ap (λ (corners : List ℕ). record { side = answerOf (placesOf sites) .side; corners = corners })
+    (take-at (answerOf (placesOf sites) .corners) _ (length sites)
+    (answer-corners (answer-is (placesOf sites) distinct) .one-each ∙ length-map sites placeOf))

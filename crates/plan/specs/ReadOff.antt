@@ -14,7 +14,7 @@ use Rattle.plan.specs.Number.{numberIn}
 use Rattle.plan.specs.Site.{placeAt}
 
 -- The lines of a text, each ended by a line feed; bytes after the last line feed are no line.
-pub linesOf : List ℕ → List (List ℕ)
+unfoldable pub linesOf : List ℕ → List (List ℕ)
 linesOf [] = []
 linesOf (b ∷ text) = elim (eqb b lineFeed) [ true ↦ [] ∷ linesOf text | false ↦ withFirst b (linesOf text) ]
 
@@ -49,7 +49,7 @@ spotIn (name ∷ []) = nowhere
 spotIn (name ∷ x ∷ []) = nowhere
 spotIn (name ∷ x ∷ y ∷ fields) = placeAt (orZero (numberIn x)) (orZero (numberIn y))
 
-pub spotsOnLines : List (List ℕ) → List Place
+unfoldable pub spotsOnLines : List (List ℕ) → List Place
 spotsOnLines [] = []
 spotsOnLines (line ∷ lines) = spotIn (fieldsOf line) ∷ spotsOnLines lines
 
@@ -62,13 +62,13 @@ abbrev pub spotsOn : List ℕ → List Place
 spotsOn sheet = spotsOnLines (underFirst (linesOf sheet))
 
 -- A line without its last field and the tab before it.
-pub withoutLast : List (List ℕ) → List ℕ
+unfoldable pub withoutLast : List (List ℕ) → List ℕ
 withoutLast [] = []
 withoutLast (field ∷ []) = []
 withoutLast (field ∷ last ∷ []) = field
 withoutLast (field ∷ next ∷ other ∷ fields) = field ++ (tab ∷ withoutLast (next ∷ other ∷ fields))
 
-pub carriedLines : List (List ℕ) → List ℕ
+unfoldable pub carriedLines : List (List ℕ) → List ℕ
 carriedLines [] = []
 carriedLines (line ∷ lines) = withoutLast (fieldsOf line) ++ (lineFeed ∷ carriedLines lines)
 

@@ -34,12 +34,12 @@ abbrev pub placeAt : ℕ → ℕ → Place
 placeAt x y = record { x = record { 0 = x }; y = record { 0 = y } }
 
 -- A name is already in the plan.
-pub nameTaken : List Site → List ℕ → Bool
+unfoldable pub nameTaken : List Site → List ℕ → Bool
 nameTaken [] name = false
 nameTaken (site ∷ sites) name = sameBytes (site .name) name || nameTaken sites name
 
 -- A place is already in the plan.
-pub placeTaken : List Site → Place → Bool
+unfoldable pub placeTaken : List Site → Place → Bool
 placeTaken [] place = false
 placeTaken (site ∷ sites) place =
     (eqb (xOf (site .place)) (xOf place) && eqb (yOf (site .place)) (yOf place)) || placeTaken sites place

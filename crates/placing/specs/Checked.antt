@@ -1,14 +1,13 @@
--- Document 01, "Known answers": the placements marked P, as rows of one table with a theorem over the rows. Each row is tested
--- by the pruned search, which the checker computes, so that a row more needs no proof.
+-- A test of an answer that a checker can run: by the pruned search at the answer's side and at the next one. The known answers
+-- are proved by it.
 -- Assumes nothing.
-use mathlib.Core.Path.{_≡_, refl, sym, ap, subst}
+use mathlib.Core.Path.{_≡_, refl, ap}
 use mathlib.Core.Bool.{Bool, true, false, not, _&&_}
-use mathlib.Core.List.{List, [], _∷_, List·Memᴰ, List·Memᴰ·cases-cons, List·Memᴰ·not-nil}
-use mathlib.Core.Logic.{⊎-elim}
+use mathlib.Core.List.{List, [], _∷_}
 use mathlib.Core.Option.{Option, none, some}
-use Prim.Native.Nat.{ℕ, suc, _*_, _≤_}
+use Prim.Native.Nat.{ℕ, suc}
 use native.Mathlib.Omega.{arith}
-use lib.Dec.{T, leb, eqb, lit≤}
+use lib.Dec.{T, leb, eqb}
 use lib.ListN.{length}
 use Rattle.placing.specs.declared.units.Place.{Place}
 use Rattle.placing.specs.declared.units.Side.{Side}
@@ -24,37 +23,8 @@ use Rattle.placing.specs.Decide.{
   all-decides,
 }
 use Rattle.placing.specs.Enumerate.{found-first, nothing-found}
-use Rattle.placing.specs.Answer.{Answer, numbered, unbounded, answerOf, answer-found, answer-free}
-use Rattle.placing.specs.Twice.{MeetingPair, meeting-decides, meeting-larger}
+use Rattle.placing.specs.Answer.{Answer, answerOf, answer-found, answer-free}
 use Rattle.placing.specs.Prune.{prunedFirst, pruned-first}
-
--- Sites in list order, with the answer for them.
-pub record Row : Type 0 where
-  pub sites : List Place
-  pub answer : Answer
-
--- The place (x, y).
-abbrev pub at : (x y : ℕ) → Place
-at x y = record { x = record { 0 = x }; y = record { 0 = y } }
-
--- The list A, B, C.
-abbrev pub column : Row
-column = record { sites = at 10 10 ∷ at 10 14 ∷ at 10 20 ∷ []; answer = numbered 6 (3 ∷ 1 ∷ 1 ∷ []) }
-
--- Document 01's placements, in its order.
-abbrev pub rows : List Row
-rows =
-    record { sites = at 5 5 ∷ []; answer = unbounded (1 ∷ []) }
-    ∷ record { sites = at 0 0 ∷ at 1 0 ∷ []; answer = unbounded (2 ∷ 1 ∷ []) }
-    ∷ record { sites = at 0 0 ∷ at 1 0 ∷ at 0 1 ∷ at 1 1 ∷ []; answer = unbounded (3 ∷ 4 ∷ 2 ∷ 1 ∷ []) }
-    ∷ record { sites = at 0 0 ∷ at 1 1 ∷ at 2 2 ∷ at 3 3 ∷ []; answer = unbounded (3 ∷ 2 ∷ 4 ∷ 1 ∷ []) }
-    ∷ record { sites = at 0 0 ∷ at 1 1 ∷ at 2 2 ∷ at 3 3 ∷ at 4 4 ∷ []; answer = numbered 4 (2 ∷ 4 ∷ 2 ∷ 4 ∷ 1 ∷ []) }
-    ∷ column
-    ∷ record {
-      sites = at 0 0 ∷ at 1 0 ∷ at 2 0 ∷ at 0 1 ∷ at 1 1 ∷ at 2 1 ∷ at 0 2 ∷ at 1 2 ∷ at 2 2 ∷ [];
-      answer = numbered 1 (1 ∷ 1 ∷ 1 ∷ 1 ∷ 1 ∷ 1 ∷ 1 ∷ 1 ∷ 1 ∷ []);
-    }
-    ∷ []
 
 -- Two sites stand at the same place.
 abbrev sameTest : Place → Place → Bool
@@ -109,20 +79,17 @@ answerTest ps Free cs = foundTest (prunedFirst freeSide ps) (some cs)
 answerTest ps (Number h) cs =
     (leb 1 (h .0) && leb (h .0) greatestSide) && (foundTest (prunedFirst (h .0) ps) (some cs) && foundTest (prunedFirst (suc (h .0)) ps) none)
 
--- A row is tested for distinct places and for its answer.
-abbrev rowTest : Row → Bool
-rowTest r = distinctTest (r .sites) && answerTest (r .sites) (r .answer .side) (r .answer .corners)
-
-abbrev rowsTest : List Row → Bool
-rowsTest [] = true
-rowsTest (r ∷ rs) = rowTest r && rowsTest rs
+-- An answer is tested with the places for being distinct.
+abbrev pub checkedTest : List Place → Answer → Bool
+checkedTest ps a = distinctTest ps && answerTest ps (a .side) (a .corners)
 
 -- What a passed test decides.
-passed : {b : Bool} {A : Type 0} → Decides b A → T b → A
+pub passed : {b : Bool} {A : Type 0} → Decides b A → T b → A
 passed {b = true} d t = d .yes-holds refl
 passed {b = false} d t = absurd t
 
-both-passed : (a b : Bool) → T (a && b) → T a × T b
+-- Two tests that passed together passed each.
+pub both-passed : (a b : Bool) → T (a && b) → T a × T b
 both-passed true b t = (tt, t)
 both-passed false b t = absurd t
 
@@ -136,25 +103,12 @@ answer-right {ps} (Number h) cs d t =
     let r = passed (both-decide side-range found-here) t in
     answer-found d (r .0 .0) (r .0 .1) (found-first (pruned-first (h .0) ps) (r .1 .0)) (nothing-found (pruned-first (suc (h .0)) ps) (r .1 .1))
 
--- A row that passes its test is right.
-pub row-right : (r : Row) → T (rowTest r) → answerOf (r .sites) ≡ r .answer
-row-right r t =
-    let parts = both-passed (distinctTest (r .sites)) (answerTest (r .sites) (r .answer .side) (r .answer .corners)) t in
-    answer-right (r .answer .side) (r .answer .corners) (passed (distinct-decides (r .sites)) (parts .0)) (parts .1)
+-- The places of an answer that passes its test are distinct,
+pub checked-distinct : (ps : List Place) (a : Answer) → T (checkedTest ps a) → Distinct ps
+checked-distinct ps a t = passed (distinct-decides ps) (both-passed (distinctTest ps) (answerTest ps (a .side) (a .corners)) t .0)
 
--- So is every row of a list that passes.
-rows-right : (rs : List Row) → T (rowsTest rs) → (r : Row) → List·Memᴰ r rs → answerOf (r .sites) ≡ r .answer
-rows-right [] t r m = absurd (List·Memᴰ·not-nil m)
-rows-right (s ∷ rs) t r m =
-    let parts = both-passed (rowTest s) (rowsTest rs) t in
-    ⊎-elim (λ e. row-right r (subst (λ r. T (rowTest r)) (sym e) (parts .0))) (rows-right rs (parts .1) r) (List·Memᴰ·cases-cons m)
-
--- The answer of every row is the answer for its sites.
-pub known : (r : Row) → List·Memᴰ r rows → answerOf (r .sites) ≡ r .answer
-known = rows-right rows tt
-
--- "Corners 3, 1, 1 do not meet up to side 12, so the factor two is reached."
-pub factor-two-reached : (p q : ℕ) → p ≤ 12 * q → MeetingPair p q (column .sites) (column .answer .corners) → ⊥
-factor-two-reached p q l r =
-    passed (not-decides (meeting-decides 12 1 (column .sites) (column .answer .corners))) tt
-    (meeting-larger (lit≤ tt) (omega arith) r)
+-- and it is the answer.
+pub checked-right : (ps : List Place) (a : Answer) → T (checkedTest ps a) → answerOf ps ≡ a
+checked-right ps a t =
+    answer-right (a .side) (a .corners) (checked-distinct ps a t)
+    (both-passed (distinctTest ps) (answerTest ps (a .side) (a .corners)) t .1)

@@ -22,3 +22,6 @@ pub mod Line
 pub mod SheetParts
 pub mod SheetLaws
 pub mod Known
+pub mod NameLaws
+pub mod NumberLaws
+pub mod PutLaws

@@ -1,0 +1,2 @@
+-- What makes a list one that may be placed.
+pub mod Ready

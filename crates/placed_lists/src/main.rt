@@ -1,0 +1,23 @@
+// Places document 01's lists that are marked P, and some at the limits, and prints a line for each: the side, then the corners
+// of the first sites.
+mod lists;
+mod print;
+mod ready;
+
+use crate::lists::column;
+use crate::lists::grid;
+use crate::lists::line;
+use crate::print::print_placed;
+
+fn main() {
+    print_placed(line(5, 5, 0, 0, 1), 1);
+    print_placed(line(0, 0, 1, 0, 2), 2);
+    print_placed(grid(2, 4), 4);
+    print_placed(line(0, 0, 1, 1, 4), 4);
+    print_placed(line(0, 0, 1, 1, 5), 5);
+    print_placed(column(), 3);
+    print_placed(grid(3, 9), 9);
+    print_placed(line(0, 0, 10_000, 10_000, 2), 2);
+    print_placed(line(0, 0, 1, 0, 240), 240);
+    print_placed(grid(15, 240), 240);
+}

@@ -25,3 +25,6 @@ pub mod Known
 pub mod NameLaws
 pub mod NumberLaws
 pub mod PutLaws
+pub mod TakenLaws
+pub mod PlanLaws
+pub mod CallLaws

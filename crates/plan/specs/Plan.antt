@@ -31,7 +31,7 @@ abbrev pub placesHeld : List Site → List Place
 placesHeld sites = placesOf sites ++ replicate (240 - length sites) nowhere
 
 -- The plan of some sites while it is not placed. Its side and corners are as the constructor leaves them.
-pub unplaced : List Site → Plan
+unfoldable pub unplaced : List Site → Plan
 unplaced sites =
     record {
       count = length sites;
@@ -43,7 +43,7 @@ unplaced sites =
     }
 
 -- The plan of some sites once it is placed: with the answer for their places.
-pub placed : List Site → Plan
+unfoldable pub placed : List Site → Plan
 placed sites =
     record {
       count = length sites;

@@ -20,7 +20,7 @@ pub record NamesHeld (n : ℕ) (names : List Name) : Type 0 where
   pub short : (i : ℕ) → i < n → getD names i (nameOf []) .len ≤ 8
 
 -- One of these names is this one.
-pub nameAmong : List Name → List ℕ → Bool
+unfoldable pub nameAmong : List Name → List ℕ → Bool
 nameAmong [] bytes = false
 nameAmong (name ∷ names) bytes = sameBytes (bytesOf name) bytes || nameAmong names bytes
 
@@ -29,7 +29,7 @@ abbrev pub namesTaken : ℕ → List Name → List ℕ → Bool
 namesTaken n names bytes = nameAmong (take n names) bytes
 
 -- One of these places is this one.
-pub placeAmong : List Place → Place → Bool
+unfoldable pub placeAmong : List Place → Place → Bool
 placeAmong [] place = false
 placeAmong (other ∷ places) place = (eqb (xOf other) (xOf place) && eqb (yOf other) (yOf place)) || placeAmong places place
 

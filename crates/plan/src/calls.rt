@@ -1,17 +1,45 @@
+// The calls of document 01 on a plan. A call takes the plan and hands back the one after it, where that can be another.
 use crate::name::name_from;
-use crate::plan::append;
-use crate::plan::refuse;
 use crate::plan::AskedCorner;
 use crate::plan::AskedSide;
 use crate::plan::Plan;
 use crate::plan::Planned;
+use crate::plan::append;
+use crate::plan::refuse;
 use crate::refusal::Outcome;
 use crate::refusal::Refusal;
 use placing::place::place_labels;
+use placing::units::Limits;
+use placing::units::Place;
+use placing::units::Units;
 ghost use mathlib.Core.Path.{_≡_};
 ghost use Rattle.plan.specs.Plan.{Valid};
-ghost use Rattle.plan.specs.Calls.{placedIn, tableAfter};
+ghost use Rattle.plan.specs.Calls.{enteredIn, placedIn, tableAfter, sideAsked, cornerAsked, counted};
 
+// Enters one site at the end: tests 2, 3, then 7, 4, 5.
+pub fn enter(plan: Plan, name: &[u8], x: u64, y: u64) -> Planned
+    requires { ⌜ Valid plan ⌝ }
+    ensures answer { λ r. ⌜ r ≡ enteredIn plan (now (name .entry)) x y ⌝ }
+    ensures valid { λ r. ⌜ Valid (r .plan) ⌝ }
+{
+    let read = name_from(name);
+    if !read.ok {
+        return refuse(plan, Refusal::Name);
+    }
+    if x > Limits::COORDINATE as u64 {
+        return refuse(plan, Refusal::Coordinate);
+    }
+    if y > Limits::COORDINATE as u64 {
+        return refuse(plan, Refusal::Coordinate);
+    }
+    let place = Place {
+        x: Units(x as u32),
+        y: Units(y as u32),
+    };
+    append(plan, read.name, place)
+}
+
+// Finds the answer of the plan's sites: tests 8, 11.
 pub fn place(plan: Plan, table: &mut [u8]) -> Planned
     requires { ⌜ Valid plan ⌝ }
     ensures answer { λ r. ⌜ r ≡ placedIn plan (now (table .entry)) ⌝ }
@@ -25,9 +53,9 @@ pub fn place(plan: Plan, table: &mut [u8]) -> Planned
     if table.len() < n * n {
         return refuse(plan, Refusal::ShortTable);
     }
+    let names = plan.names;
     let places = plan.places;
     let answer = place_labels(places, n, table);
-    let names = plan.names;
     let side = answer.side;
     let corners = answer.corners;
     let placed = Plan {
@@ -42,4 +70,39 @@ pub fn place(plan: Plan, table: &mut [u8]) -> Planned
         outcome: Outcome::Done,
         plan: placed,
     }
+}
+
+// The side of the answer: test 9.
+pub fn side(plan: Plan) -> AskedSide
+    requires { ⌜ Valid plan ⌝ }
+    ensures { λ r. ⌜ r ≡ sideAsked plan ⌝ }
+{
+    if !plan.placed {
+        return AskedSide::NoSide(Refusal::NotPlaced);
+    }
+    let side = plan.side;
+    AskedSide::SideIs(side)
+}
+
+// The corner of site number `i`: tests 9, 6.
+pub fn corner(plan: Plan, i: usize) -> AskedCorner
+    requires { ⌜ Valid plan ⌝ }
+    ensures { λ r. ⌜ r ≡ cornerAsked plan i ⌝ }
+{
+    if !plan.placed {
+        return AskedCorner::NoCorner(Refusal::NotPlaced);
+    }
+    if i >= plan.count {
+        return AskedCorner::NoCorner(Refusal::NoSuchSite);
+    }
+    let corners = plan.corners;
+    AskedCorner::CornerIs(corners[i])
+}
+
+// How many sites the plan has.
+pub fn count(plan: Plan) -> usize
+    requires { ⌜ Valid plan ⌝ }
+    ensures { λ r. ⌜ r ≡ counted plan ⌝ }
+{
+    plan.count
 }

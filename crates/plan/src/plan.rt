@@ -1,6 +1,6 @@
 // A plan: the sites of one level in list order and, once it is placed, its answer.
-use crate::name::same_name;
 use crate::name::Name;
+use crate::name::same_name;
 use crate::refusal::Outcome;
 use crate::refusal::Refusal;
 use placing::units::Limits;
@@ -56,7 +56,8 @@ pub enum Written {
 impl Plan {
     // The plan of no sites.
     pub fn start() -> Plan
-        ensures { λ r. ⌜ r ≡ started ⌝ }
+        ensures answer { λ r. ⌜ r ≡ started ⌝ }
+        ensures valid { λ r. ⌜ Valid r ⌝ }
     {
         let none = Name::none();
         let nowhere = Place {

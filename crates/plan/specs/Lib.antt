@@ -28,3 +28,6 @@ pub mod PutLaws
 pub mod TakenLaws
 pub mod PlanLaws
 pub mod CallLaws
+pub mod LineLaws
+pub mod FieldLaws
+pub mod Reading

@@ -36,7 +36,7 @@ enteredFields sites (name ∷ x ∷ y ∷ []) = refusedIf (not (isName name)) Na
 enteredFields sites (name ∷ x ∷ y ∷ other ∷ fields) = refused Line
 
 -- Entering a line.
-pub enteredLine : List Site → List ℕ → Sites
+unfoldable pub enteredLine : List Site → List ℕ → Sites
 enteredLine sites line = enteredFields sites (fieldsOf line)
 
 -- What follows a line: nothing where it is refused.
@@ -55,12 +55,12 @@ readOn follow sites [] = accepted sites
 readOn follow sites (b ∷ text) = withLine follow sites (firstLine (b ∷ text))
 
 -- Reading the lines of a text after these sites; k is at least the number of its lines.
-pub readLines : ℕ → List Site → List ℕ → Sites
+unfoldable pub readLines : ℕ → List Site → List ℕ → Sites
 readLines zero sites text = accepted sites
 readLines (suc k) sites text = readOn (readLines k) sites text
 
 -- "An empty text is a list of no sites." A text has at most as many lines as bytes.
-pub readList : List ℕ → Sites
+unfoldable pub readList : List ℕ → Sites
 readList text = readLines (length text) [] text
 
 -- The list of some sites as text: name, x, y.

@@ -28,7 +28,7 @@ abbrev pub withByte : ℕ → Cut → Cut
 withByte b cut = record { line = b ∷ cut .line; rest = cut .rest }
 
 -- The text cut at its first line feed, if that is among its first k bytes.
-pub cutWithin : ℕ → List ℕ → Option Cut
+unfoldable pub cutWithin : ℕ → List ℕ → Option Cut
 cutWithin zero text = none
 cutWithin (suc k) [] = none
 cutWithin (suc k) (b ∷ text) =
@@ -127,7 +127,7 @@ joined-with-first b (field ∷ []) = refl
 joined-with-first b (field ∷ next ∷ fields) = refl
 
 -- A line has a field.
-fields-some : (line : List ℕ) → 1 ≤ length (fieldsOf line)
+pub fields-some : (line : List ℕ) → 1 ≤ length (fieldsOf line)
 unfolding fieldsOf
 fields-some [] = omega arith
 fields-some (b ∷ line) = by-tab (eqb b tab) (fieldsOf line)

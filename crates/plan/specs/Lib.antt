@@ -31,3 +31,6 @@ pub mod CallLaws
 pub mod LineLaws
 pub mod FieldLaws
 pub mod Reading
+pub mod Composing
+pub mod Refusing
+pub mod Filling

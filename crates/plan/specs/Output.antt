@@ -25,7 +25,7 @@ abbrev pub refusedWord : List ℕ
 refusedWord = 114 ∷ 101 ∷ 102 ∷ 117 ∷ 115 ∷ 101 ∷ 100 ∷ []
 
 -- "A refusal is written as the word refused, a tab, the number, a line feed."
-pub refusalLine : Refusal → List ℕ
+unfoldable pub refusalLine : Refusal → List ℕ
 refusalLine why = refusedWord ++ (tab ∷ decimal (numberOf why)) ++ (lineFeed ∷ [])
 
 -- The output for what a list was read as: its sheet, or the refusal. A list of no sites cannot be placed.
@@ -35,7 +35,7 @@ outputFor (accepted (site ∷ sites)) = sheetOf (site ∷ sites)
 outputFor (refused why) = refusalLine why
 
 -- The output for a text.
-pub outputOf : List ℕ → List ℕ
+unfoldable pub outputOf : List ℕ → List ℕ
 outputOf text = outputFor (readList text)
 
 -- The output for a text that is read as some sites is their sheet.

@@ -15,6 +15,10 @@ sets-append buffer at (x ∷ xs) ys =
     let along : suc at + length xs ≡ at + suc (length xs) = omega arith in
     sets-append (set buffer at x) (suc at) xs ys ∙ ap (λ (i : ℕ). sets (sets (set buffer at x) (suc at) xs) i ys) along
 
+-- No text leaves the buffer as it is.
+pub put-none : (buffer : List ℕ) (at : ℕ) → Put buffer at [] at buffer
+put-none buffer at = record { next-is = omega arith; after-is = refl }
+
 module _ {buffer : List ℕ} {at : ℕ} {xs : List ℕ} {next : ℕ} {after : List ℕ} (put : Put buffer at xs next after) where
   -- A text written behind another.
   pub put-then : {ys : List ℕ} {last : ℕ} {later : List ℕ} → Put after next ys last later → Put buffer at (xs ++ ys) last later
@@ -35,6 +39,10 @@ module _ {buffer : List ℕ} {at : ℕ} {xs : List ℕ} {next : ℕ} {after : Li
   -- The buffer keeps its length.
   pub put-length : length after ≡ length buffer
   put-length = ap length (put .after-is) ∙ length-sets buffer at xs
+
+  -- The room left behind a text of at most k bytes.
+  pub put-room : (k m : ℕ) → length xs ≤ k → at + (k + m) ≤ length buffer → next + m ≤ length after
+  put-room k m short room = omega (arith, put .next-is, put-length)
 
 -- A text written at the front of a buffer: the text, and then the buffer behind it.
 pub put-front : {buffer text after : List ℕ} {next : ℕ} → Put buffer 0 text next after → length text ≤ length buffer

@@ -34,17 +34,17 @@ sideText (Number side) = decimal (side .0)
 sideText Free = freeWord
 
 -- The lines of the sites with these corners.
-pub siteLines : List Site → List ℕ → List ℕ
+unfoldable pub siteLines : List Site → List ℕ → List ℕ
 siteLines [] corners = []
 siteLines (site ∷ sites) [] = []
 siteLines (site ∷ sites) (corner ∷ corners) = listLine site ++ (tab ∷ decimal corner) ++ (lineFeed ∷ siteLines sites corners)
 
 -- The sheet of some sites with an answer.
-pub sheetWith : List Site → Answer → List ℕ
+unfoldable pub sheetWith : List Site → Answer → List ℕ
 sheetWith sites answer = sideWord ++ (tab ∷ sideText (answer .side)) ++ (lineFeed ∷ siteLines sites (answer .corners))
 
 -- The sheet of some sites: with the answer for their places.
-pub sheetOf : List Site → List ℕ
+unfoldable pub sheetOf : List Site → List ℕ
 sheetOf sites = sheetWith sites (answerOf (placesOf sites))
 
 -- ---- what the answer's part of a sheet is

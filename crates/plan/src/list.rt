@@ -1,11 +1,11 @@
 // Reading a list: one site a line, name, x, y, parted by one tab each.
 use crate::name::name_from;
-use crate::number::coordinate_from;
 use crate::number::Coordinate;
-use crate::plan::append;
-use crate::plan::refuse;
+use crate::number::coordinate_from;
 use crate::plan::Plan;
 use crate::plan::Planned;
+use crate::plan::append;
+use crate::plan::refuse;
 use crate::refusal::Outcome;
 use crate::refusal::Refusal;
 use placing::units::Place;
@@ -60,7 +60,7 @@ fn field_end(line: &[u8], at: usize) -> usize
 fn enter_fields(plan: Plan, name: &[u8], x: &[u8], y: &[u8]) -> Planned
     requires { ⌜ Valid plan ⌝ }
     ensures answer { λ r. ⌜ r ≡ plannedOr plan (enteredFields (sitesIn plan)
-      (now (name .entry) ∷ now (x .entry) ∷ now (y .entry) ∷ [])) ⌝ }
+        (now (name .entry) ∷ now (x .entry) ∷ now (y .entry) ∷ [])) ⌝ }
     ensures valid { λ r. ⌜ Valid (r .plan) ⌝ }
 {
     let named = name_from(name);

@@ -5,11 +5,11 @@ use crate::units::Limits;
 use crate::units::Place;
 use crate::units::Units;
 ghost use mathlib.Core.Path.{_≡_};
-ghost use Prim.Native.Nat.{_<_, max, min};
+ghost use Prim.Native.Nat.{_<_, max};
 ghost use Rattle.placing.specs.Units.{OnPlan, dist};
 ghost use Rattle.placing.specs.Corner.{Corner};
-ghost use Rattle.placing.specs.Sites.{Held, placeAt, sitesOf};
-ghost use Rattle.placing.specs.Crowding.{CoveredAbove, CrowdedAbove, CornerCrowding, CrowdingIs, judgedFree};
+ghost use Rattle.placing.specs.Sites.{Held, sitesOf};
+ghost use Rattle.placing.specs.Crowding.{apart, Lowered, Nearer, SiteCrowding, CrowdingIs, judgedFree};
 
 // For each corner, a number for each site: at the sides above it the corner is crowded.
 pub struct Crowding {
@@ -17,6 +17,14 @@ pub struct Crowding {
     pub second: [u32; 240],
     pub third: [u32; 240],
     pub fourth: [u32; 240],
+}
+
+// The numbers of one site.
+pub struct Above {
+    pub first: u32,
+    pub second: u32,
+    pub third: u32,
+    pub fourth: u32,
 }
 
 fn distance(a: Units, b: Units) -> u32
@@ -31,66 +39,79 @@ fn larger(a: u32, b: u32) -> u32
     if a <= b { b } else { a }
 }
 
-fn smaller(a: u32, b: u32) -> u32
-    ensures { λ r. ⌜ r ≡ min a b ⌝ }
+// The number of corner `c` of `s`, `above` so far, with one other site more: `t`, which lies `away` from `s`. The distance is
+// asked first: most sites lie too far away to count.
+fn lowered(above: u32, away: u32, s: Place, c: u8, t: Place) -> u32
+    requires { ⌜ OnPlan s × OnPlan t × Corner c × (away ≡ apart s t) ⌝ }
+    ensures { λ r. ⌜ Lowered s c t above r ⌝ }
 {
-    if a <= b { a } else { b }
-}
-
-// Above which side the doubled label at corner `c` of `s` covers `t`: at 20,001 it covers all that lies that way.
-fn covered_above(s: Place, c: u8, t: Place) -> u32
-    requires { ⌜ OnPlan s × OnPlan t × Corner c ⌝ }
-    ensures { λ r. ⌜ CoveredAbove s c t r ⌝ }
-{
+    if above <= away {
+        return above;
+    }
     if doubled_covers(HalfUnits(Limits::FREE_SIDE), s, c, t) {
-        larger(distance(s.x, t.x), distance(s.y, t.y))
+        away
     } else {
-        Limits::FREE_SIDE
+        above
     }
 }
 
-// Above which side corner `c` of site `i` is crowded.
-fn crowded_above(xs: &[u32; 240], ys: &[u32; 240], n: usize, c: u8, i: usize) -> u32
-    requires { ⌜ Held n (now xs) (now ys) judgedFree × Corner c × (i < n) ⌝ }
-    ensures { λ r. ⌜ CrowdedAbove (sitesOf n (now (xs .entry)) (now (ys .entry))) i c r ⌝ }
+// The numbers of a site at `s`, `above` so far, with one other site more: `t`.
+fn nearer(above: Above, s: Place, t: Place) -> Above
+    requires { ⌜ OnPlan s × OnPlan t ⌝ }
+    ensures { λ r. ⌜ Nearer s t above r ⌝ }
+{
+    let away = larger(distance(s.x, t.x), distance(s.y, t.y));
+    Above {
+        first: lowered(above.first, away, s, 1, t),
+        second: lowered(above.second, away, s, 2, t),
+        third: lowered(above.third, away, s, 3, t),
+        fourth: lowered(above.fourth, away, s, 4, t),
+    }
+}
+
+// The numbers of site `i`.
+fn crowded_above(xs: &[u32; 240], ys: &[u32; 240], n: usize, i: usize) -> Above
+    requires { ⌜ Held n (now xs) (now ys) judgedFree × (i < n) ⌝ }
+    ensures { λ r. ⌜ SiteCrowding (sitesOf n (now (xs .entry)) (now (ys .entry))) i r ⌝ }
 {
     let s = Place {
         x: Units(xs[i]),
         y: Units(ys[i]),
     };
-    let mut least = Limits::FREE_SIDE;
+    let mut above = Above {
+        first: Limits::FREE_SIDE,
+        second: Limits::FREE_SIDE,
+        third: Limits::FREE_SIDE,
+        fourth: Limits::FREE_SIDE,
+    };
     for j in 0..n {
         if j != i {
             let t = Place {
                 x: Units(xs[j]),
                 y: Units(ys[j]),
             };
-            least = smaller(least, covered_above(s, c, t));
+            above = nearer(above, s, t);
         }
-    }
-    least
-}
-
-fn corner_crowding(xs: &[u32; 240], ys: &[u32; 240], n: usize, c: u8) -> [u32; 240]
-    requires { ⌜ Held n (now xs) (now ys) judgedFree × Corner c ⌝ }
-    ensures { λ r. ⌜ CornerCrowding (sitesOf n (now (xs .entry)) (now (ys .entry))) n c r ⌝ }
-{
-    let mut above = [0u32; 240];
-    for i in 0..n {
-        above[i] = crowded_above(xs, ys, n, c, i);
     }
     above
 }
 
-// The numbers of all corners of all sites.
+// The numbers of all sites.
 pub fn crowding_of(xs: &[u32; 240], ys: &[u32; 240], n: usize) -> Crowding
     requires { ⌜ Held n (now xs) (now ys) judgedFree ⌝ }
     ensures { λ r. ⌜ CrowdingIs (sitesOf n (now (xs .entry)) (now (ys .entry))) n r ⌝ }
 {
-    let first = corner_crowding(xs, ys, n, 1);
-    let second = corner_crowding(xs, ys, n, 2);
-    let third = corner_crowding(xs, ys, n, 3);
-    let fourth = corner_crowding(xs, ys, n, 4);
+    let mut first = [0u32; 240];
+    let mut second = [0u32; 240];
+    let mut third = [0u32; 240];
+    let mut fourth = [0u32; 240];
+    for i in 0..n {
+        let above = crowded_above(xs, ys, n, i);
+        first[i] = above.first;
+        second[i] = above.second;
+        third[i] = above.third;
+        fourth[i] = above.fourth;
+    }
     Crowding {
         first,
         second,

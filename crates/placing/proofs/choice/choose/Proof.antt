@@ -1,18 +1,14 @@
+-- `placing::choice::choose` meets its contract: the walk starts at a fresh state, and its end is the first good choice or none.
+-- Assumes nothing.
 use Rattle.placing.specs.Walk.{walk-starts}
 use Rattle.placing.specs.Chosen.{walked-choice}
 use borrow.Author.Needs.{needs}
 use Rattle.placing.proofs.choice.choose.Statement.{statement}
 use Rattle.placing.proofs.choice.choose.Tie as tie
-use Rattle.placing.proofs.choice.choose.Reads as reads
-use Rattle.placing.proofs.choice.choose.Lts as lts
-use Rattle.placing.proofs.choice.walk.Reads as walk-reads
-use Rattle.placing.proofs.fresh.fresh_state.Reads as fresh-state-reads
 
--- src/choice.rt:94:40
 fresh-state-requires : tie.Need-fresh-state-requires
 fresh-state-requires c κs = search needs
 
--- src/choice.rt:94:9
 walk-requires : tie.Need-walk-requires
 walk-requires c κs =
     let at-fresh = c .before in
@@ -25,11 +21,9 @@ walk-requires c κs =
       walked = walk-starts (at-fresh .fresh-state .ensures .fresh _ _ (may .held .judged) (may .crowding-is));
     }
 
--- src/choice.rt:82:1
 same-length : tie.Need-same-length
 same-length c = search needs
 
--- src/choice.rt:82:1
 returns : tie.Need-returns
 returns c =
     let at-walk = c .before .before .before .before in

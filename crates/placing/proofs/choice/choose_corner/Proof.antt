@@ -1,3 +1,5 @@
+-- `placing::choice::choose_corner` meets its contract: the corners passed are refused, and the first trial that does not fail is taken.
+-- Assumes nothing.
 use mathlib.Core.Path.{_∙_}
 use mathlib.Core.Logic.{⊎-elim}
 use native.Mathlib.Omega.{arith}
@@ -9,9 +11,6 @@ use Rattle.placing.specs.Marks.{kept-same, kept-twice}
 use Rattle.placing.specs.Walking.{RefusedUpTo, row-next, refused-none, refused-more, refused-byte, takes-corner, takes-none}
 use Rattle.placing.proofs.choice.choose_corner.Statement.{statement}
 use Rattle.placing.proofs.choice.choose_corner.Tie as tie
-use Rattle.placing.proofs.choice.choose_corner.Reads as reads
-use Rattle.placing.proofs.choice.choose_corner.Lts as lts
-use Rattle.placing.proofs.trial.try_corner.Reads as try-corner-reads
 
 abbrev Inv-loop : tie.InvT-loop
 Inv-loop xs ys n side marks₀ i state e₀ marks e =
@@ -20,31 +19,24 @@ Inv-loop xs ys n side marks₀ i state e₀ marks e =
 abbrev μ-loop : tie.MeasureT-loop
 μ-loop xs ys n side marks₀ i state e₀ marks e = 4 - e
 
--- src/choice.rt:41:5
 loop-holds : tie.Need-loop-holds Inv-loop μ-loop
 loop-holds c = (search needs, kept-same, refused-none _ (c .before .pre .1))
 
--- src/choice.rt:42:18
 mul-at : tie.Need-mul-at Inv-loop μ-loop
 mul-at c = search needs
 
--- src/choice.rt:42:18
 add-at : tie.Need-add-at Inv-loop μ-loop
 add-at c = search needs
 
--- src/choice.rt:43:12
 element-copy-out-if1 : tie.Need-element-copy-out-if1 Inv-loop μ-loop
 element-copy-out-if1 c = search needs
 
--- src/choice.rt:44:71
 add-try-corner : tie.Need-add-try-corner Inv-loop μ-loop
 add-try-corner c = search needs
 
--- src/choice.rt:44:70
 cast-try-corner : tie.Need-cast-try-corner Inv-loop μ-loop
 cast-try-corner c = search needs
 
--- src/choice.rt:44:17
 try-corner-requires : tie.Need-try-corner-requires Inv-loop μ-loop
 try-corner-requires c κs =
     let at-loop = c .before .before .before .before in
@@ -61,11 +53,9 @@ try-corner-requires c κs =
       is-open = row-next (at-start .args .t5 .ways) (at-start .args .i) (at-loop .loop .e) (omega arith) ∙ c .before .if1 .taken;
     }
 
--- src/choice.rt:46:17
 same-length : tie.Need-same-length Inv-loop μ-loop
 same-length c = search needs
 
--- src/choice.rt:46:17
 returns : tie.Need-returns Inv-loop μ-loop
 returns c =
     let at-try = c .before .before .before in
@@ -76,15 +66,12 @@ returns c =
       kept-twice (at-loop .loop .inv .1) (at-try .try-corner .ensures .1),
     )
 
--- src/choice.rt:41:9
 add-e : tie.Need-add-e Inv-loop μ-loop
 add-e c = search needs
 
--- src/choice.rt:41:5
 loop-less : tie.Need-loop-less Inv-loop μ-loop
 loop-less c = search needs
 
--- src/choice.rt:41:5
 loop-again : tie.Need-loop-again Inv-loop μ-loop
 loop-again c =
     let at-loop = c .before .before .before in
@@ -102,11 +89,9 @@ loop-again c =
     ))
     (c .if1 .came)
 
--- src/choice.rt:26:1
 same-length-2 : tie.Need-same-length-2 Inv-loop μ-loop
 same-length-2 c = search needs
 
--- src/choice.rt:26:1
 returns-2 : tie.Need-returns-2 Inv-loop μ-loop
 returns-2 c =
     let at-loop = c .before in

@@ -1,3 +1,5 @@
+-- `placing::choice::walk` meets its contract: the walk has come to site i, by the laws of `specs/Walk`.
+-- Assumes nothing.
 use Prim.Native.Nat.{_≤_, _-_}
 use mathlib.Core.Logic.{⊎-elim}
 use native.Mathlib.Omega.{arith}
@@ -12,9 +14,6 @@ use Rattle.placing.specs.Marks.{kept-same, kept-twice}
 use Rattle.placing.specs.Walking.{walk-over, walked-all}
 use Rattle.placing.proofs.choice.walk.Statement.{statement}
 use Rattle.placing.proofs.choice.walk.Tie as tie
-use Rattle.placing.proofs.choice.walk.Reads as reads
-use Rattle.placing.proofs.choice.walk.Lts as lts
-use Rattle.placing.proofs.choice.choose_corner.Reads as choose-corner-reads
 
 abbrev Inv-loop : tie.InvT-loop
 Inv-loop xs ys n side marks₀ state₀ i₀ marks state i =
@@ -24,15 +23,12 @@ Inv-loop xs ys n side marks₀ state₀ i₀ marks state i =
 abbrev μ-loop : tie.MeasureT-loop
 μ-loop xs ys n side marks₀ state₀ i₀ marks state i = n - i
 
--- src/choice.rt:68:5
 loop-holds : tie.Need-loop-holds Inv-loop μ-loop
 loop-holds c = (search needs, kept-same, c .before .pre .sizes, c .before .pre .walked)
 
--- src/choice.rt:69:12
 element-copy-out-if1 : tie.Need-element-copy-out-if1 Inv-loop μ-loop
 element-copy-out-if1 c = search needs
 
--- src/choice.rt:70:17
 choose-corner-requires : tie.Need-choose-corner-requires Inv-loop μ-loop
 choose-corner-requires c κs =
     let at-loop = c .before .before .before .before in
@@ -47,11 +43,9 @@ choose-corner-requires c κs =
       c .before .if1 .taken,
     )
 
--- src/choice.rt:72:17
 same-length : tie.Need-same-length Inv-loop μ-loop
 same-length c = search needs
 
--- src/choice.rt:72:17
 returns : tie.Need-returns Inv-loop μ-loop
 returns c =
     let at-choose = c .before .before .before .before in
@@ -60,15 +54,12 @@ returns c =
       kept-twice (at-loop .loop .inv .1) (at-choose .choose-corner .ensures .1),
     )
 
--- src/choice.rt:68:9
 add-i : tie.Need-add-i Inv-loop μ-loop
 add-i c = search needs
 
--- src/choice.rt:68:5
 loop-less : tie.Need-loop-less Inv-loop μ-loop
 loop-less c = search needs
 
--- src/choice.rt:68:5
 loop-again : tie.Need-loop-again Inv-loop μ-loop
 loop-again c =
     let at-loop = c .before .before .before in
@@ -88,11 +79,9 @@ loop-again c =
     )))
     (c .if1 .came)
 
--- src/choice.rt:54:1
 same-length-2 : tie.Need-same-length-2 Inv-loop μ-loop
 same-length-2 c = search needs
 
--- src/choice.rt:54:1
 returns-2 : tie.Need-returns-2 Inv-loop μ-loop
 returns-2 c =
     let at-loop = c .before in (

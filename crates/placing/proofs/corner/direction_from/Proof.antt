@@ -1,14 +1,12 @@
+-- `placing::corner::direction_from` meets its contract.
+-- Assumes nothing.
 use borrow.Author.Tests.{eq-eqb, ne-eqb}
 use Rattle.placing.proofs.corner.direction_from.Statement.{statement}
 use Rattle.placing.proofs.corner.direction_from.Tie as tie
-use Rattle.placing.proofs.corner.direction_from.Reads as reads
-use Rattle.placing.proofs.corner.direction_from.Lts as lts
 
--- src/corner.rt:20:1
 returns : tie.Need-returns
 returns c = simp (eq-eqb _ _ (c .if1 .taken))
 
--- src/corner.rt:20:1
 returns-2 : tie.Need-returns-2
 returns-2 c = simp (ne-eqb _ _ (c .if1 .left))
 

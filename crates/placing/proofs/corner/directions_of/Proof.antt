@@ -1,3 +1,5 @@
+-- `placing::corner::directions_of` meets its contract: the table's rule, computed at each of its four entries.
+-- Assumes nothing.
 use mathlib.Core.Path.{_≡_, refl, _∙_}
 use mathlib.Core.List.{List, [], _∷_}
 use Prim.Native.Nat.{ℕ, zero, suc, _+_, _-_, _*_}
@@ -9,9 +11,6 @@ use Rattle.placing.specs.Corner.{Corner, directionsOf, upWhere}
 use borrow.Author.Needs.{needs}
 use Rattle.placing.proofs.corner.directions_of.Statement.{statement}
 use Rattle.placing.proofs.corner.directions_of.Tie as tie
-use Rattle.placing.proofs.corner.directions_of.Reads as reads
-use Rattle.placing.proofs.corner.directions_of.Lts as lts
-use Rattle.placing.proofs.corner.direction_from.Reads as direction-from-reads
 
 table : List ℕ
 table = 1 ∷ 1 ∷ 0 ∷ 1 ∷ 0 ∷ 0 ∷ 1 ∷ 0 ∷ []
@@ -27,35 +26,27 @@ off-table (suc (suc (suc zero))) k = refl
 off-table (suc (suc (suc (suc zero)))) k = refl
 off-table (suc (suc (suc (suc (suc c))))) k = absurd (omega arith)
 
--- src/corner.rt:35:19
 sub-at : tie.Need-sub-at
 sub-at c = search needs
 
--- src/corner.rt:35:14
 mul-at : tie.Need-mul-at
 mul-at c = search needs
 
--- src/corner.rt:37:27
 array-read-direction-from : tie.Need-array-read-direction-from
 array-read-direction-from c = search needs
 
--- src/corner.rt:37:12
 direction-from-requires : tie.Need-direction-from-requires
 direction-from-requires c κs = search needs
 
--- src/corner.rt:38:38
 add-direction-from : tie.Need-add-direction-from
 add-direction-from c = search needs
 
--- src/corner.rt:38:27
 array-read-direction-from-2 : tie.Need-array-read-direction-from-2
 array-read-direction-from-2 c = search needs
 
--- src/corner.rt:38:12
 direction-from-requires-2 : tie.Need-direction-from-requires-2
 direction-from-requires-2 c κs = search needs
 
--- src/corner.rt:31:1
 returns : tie.Need-returns
 unfolding table
 returns c =

@@ -1,54 +1,50 @@
--- `crowding::crowded_above` meets its contract. The loop's invariant: `least` is the number over the sites below `j`.
+-- `crowding::crowded_above` meets its contract. The loop's invariant: `above` has the numbers over the sites below `j`.
 -- Assumes nothing.
 use Prim.Native.Nat.{_≤_, _-_}
 use native.Mathlib.Omega.{arith}
 use mathlib.Core.Logic.{⊎-elim}
 use Rattle.placing.specs.Sites.{sitesOf, length-sites}
-use Rattle.placing.specs.Crowding.{CrowdedAmong, held-on-plan, among-none, among-held, among-self, among-all}
+use Rattle.placing.specs.Crowding.{SiteAmong, held-on-plan, site-none, site-other, site-self, site-all}
 use Rattle.placing.proofs.crowding.crowded_above.Statement.{statement}
 use Rattle.placing.proofs.crowding.crowded_above.Tie as tie
 
 abbrev Inv-loop : tie.InvT-loop
-Inv-loop xs ys n c i s least₀ j₀ least j = (j ≤ n) × CrowdedAmong (sitesOf n xs ys) i c j least
+Inv-loop xs ys n i s above₀ j₀ above j = (j ≤ n) × SiteAmong (sitesOf n xs ys) i j above
 
 abbrev μ-loop : tie.MeasureT-loop
-μ-loop xs ys n c i s least₀ j₀ least j = n - j
+μ-loop xs ys n i s above₀ j₀ above j = n - j
 
-mul-t10 : tie.Need-mul-t10 Inv-loop μ-loop
-mul-t10 c = omega arith
+mul-t9 : tie.Need-mul-t9 Inv-loop μ-loop
+mul-t9 c = omega arith
 
-element-copy-out-t13 : tie.Need-element-copy-out-t13 Inv-loop μ-loop
-element-copy-out-t13 c = omega arith
+element-copy-out-t12 : tie.Need-element-copy-out-t12 Inv-loop μ-loop
+element-copy-out-t12 c = omega arith
 
-mul-t15 : tie.Need-mul-t15 Inv-loop μ-loop
-mul-t15 c = omega arith
+mul-t14 : tie.Need-mul-t14 Inv-loop μ-loop
+mul-t14 c = omega arith
 
-element-copy-out-t18 : tie.Need-element-copy-out-t18 Inv-loop μ-loop
-element-copy-out-t18 c = omega arith
+element-copy-out-t17 : tie.Need-element-copy-out-t17 Inv-loop μ-loop
+element-copy-out-t17 c = omega arith
 
 loop-holds : tie.Need-loop-holds Inv-loop μ-loop
-loop-holds c = (omega arith, among-none)
+loop-holds c = (omega arith, site-none)
 
-mul-smaller : tie.Need-mul-smaller Inv-loop μ-loop
-mul-smaller c = omega arith
+mul-t20 : tie.Need-mul-t20 Inv-loop μ-loop
+mul-t20 c = omega arith
 
-element-copy-out-smaller : tie.Need-element-copy-out-smaller Inv-loop μ-loop
-element-copy-out-smaller c = omega arith
+element-copy-out-t23 : tie.Need-element-copy-out-t23 Inv-loop μ-loop
+element-copy-out-t23 c = omega arith
 
-mul-t26 : tie.Need-mul-t26 Inv-loop μ-loop
-mul-t26 c = omega arith
+mul-t25 : tie.Need-mul-t25 Inv-loop μ-loop
+mul-t25 c = omega arith
 
-element-copy-out-t29 : tie.Need-element-copy-out-t29 Inv-loop μ-loop
-element-copy-out-t29 c = omega arith
+element-copy-out-t28 : tie.Need-element-copy-out-t28 Inv-loop μ-loop
+element-copy-out-t28 c = omega arith
 
-covered-above-requires : tie.Need-covered-above-requires Inv-loop μ-loop
-covered-above-requires c κs =
-    let in-turn = c .before .before .before .before in
-    let asked = in-turn .before .before .before .pre in
-    (held-on-plan (asked .0) (asked .2), held-on-plan (asked .0) (c .before .before .before .loop-test .taken), asked .1)
-
-smaller-requires : tie.Need-smaller-requires Inv-loop μ-loop
-smaller-requires c κs = tt
+nearer-requires : tie.Need-nearer-requires Inv-loop μ-loop
+nearer-requires c κs =
+    let asked = c .before .before .before .before .before .before .before .pre in
+    (held-on-plan (asked .0) (asked .1), held-on-plan (asked .0) (c .before .before .before .loop-test .taken))
 
 add-j : tie.Need-add-j Inv-loop μ-loop
 add-j c = omega arith
@@ -64,16 +60,16 @@ loop-again c =
     let among = turn .loop .inv .1 in (
       omega arith,
       ⊎-elim
-          (λ w. rw (w .5, w .4 .ensures)
-          (among-held (start .args .xs .now) (start .args .ys .now) (start .pre .2) more (w .0 .taken) among (w .3 .ensures)))
-          (λ w. rw (w .1) (among-self (w .0 .left) among)) (c .if1 .came),
+          (λ w. rw (w .4)
+          (site-other (start .args .xs .now) (start .args .ys .now) (start .pre .1) more (w .0 .taken) among (w .3 .ensures)))
+          (λ w. rw (w .1) (site-self (w .0 .left) among)) (c .if1 .came),
     )
 
 returns : tie.Need-returns Inv-loop μ-loop
 returns c =
     let at-end = c .before in
     let asked = at-end .before .before .before .args in
-    among-all (omega (arith, length-sites (asked .n) (asked .xs .now) (asked .ys .now))) (at-end .loop .inv .1)
+    site-all (omega (arith, length-sites (asked .n) (asked .xs .now) (asked .ys .now))) (at-end .loop .inv .1)
 
 pub crowded-above-spec : {M : Type 1} → statement M
 crowded-above-spec =
@@ -81,17 +77,16 @@ crowded-above-spec =
     (tie.spec
     Inv-loop
     μ-loop
-    mul-t10
-    element-copy-out-t13
-    mul-t15
-    element-copy-out-t18
+    mul-t9
+    element-copy-out-t12
+    mul-t14
+    element-copy-out-t17
     loop-holds
-    mul-smaller
-    element-copy-out-smaller
-    mul-t26
-    element-copy-out-t29
-    covered-above-requires
-    smaller-requires
+    mul-t20
+    element-copy-out-t23
+    mul-t25
+    element-copy-out-t28
+    nearer-requires
     add-j
     loop-less
     loop-again

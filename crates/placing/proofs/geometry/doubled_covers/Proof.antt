@@ -1,25 +1,19 @@
+-- `placing::geometry::doubled_covers` meets its contract: along x, and where that holds along y.
+-- Assumes nothing.
 use Rattle.placing.specs.Decides.{decides-second, decides-no}
 use borrow.Author.Needs.{needs}
 use Rattle.placing.proofs.geometry.doubled_covers.Statement.{statement}
 use Rattle.placing.proofs.geometry.doubled_covers.Tie as tie
-use Rattle.placing.proofs.geometry.doubled_covers.Reads as reads
-use Rattle.placing.proofs.geometry.doubled_covers.Lts as lts
-use Rattle.placing.proofs.corner.directions_of.Reads as directions-of-reads
-use Rattle.placing.proofs.geometry.ahead.Reads as ahead-reads
 
--- src/geometry.rt:91:9
 directions-of-requires : tie.Need-directions-of-requires
 directions-of-requires c κs = search needs
 
--- src/geometry.rt:94:8
 ahead-requires : tie.Need-ahead-requires
 ahead-requires c κs = search needs
 
--- src/geometry.rt:95:9
 ahead-requires-2 : tie.Need-ahead-requires-2
 ahead-requires-2 c κs = search needs
 
--- src/geometry.rt:87:1
 returns : tie.Need-returns
 returns c =
     let at-first = c .before .before in
@@ -27,7 +21,6 @@ returns c =
     decides-second (rw known at (at-first .ahead .ensures .yes-holds (c .before .if1 .taken))) (rw known at (c .ahead2 .ensures))
     (λ f s. record { along-x = f; along-y = s }) (λ b. b .along-y)
 
--- src/geometry.rt:87:1
 returns-2 : tie.Need-returns-2
 returns-2 c = decides-no (λ h.
     let at-first = c .before in

@@ -1,29 +1,22 @@
+-- `placing::geometry::meet` meets its contract: along x, and where that holds along y.
+-- Assumes nothing.
 use Rattle.placing.specs.Decides.{decides-second, decides-no}
 use borrow.Author.Needs.{needs}
 use Rattle.placing.proofs.geometry.meet.Statement.{statement}
 use Rattle.placing.proofs.geometry.meet.Tie as tie
-use Rattle.placing.proofs.geometry.meet.Reads as reads
-use Rattle.placing.proofs.geometry.meet.Lts as lts
-use Rattle.placing.proofs.corner.directions_of.Reads as directions-of-reads
-use Rattle.placing.proofs.geometry.overlap.Reads as overlap-reads
 
--- src/geometry.rt:62:9
 directions-of-requires : tie.Need-directions-of-requires
 directions-of-requires c κs = search needs
 
--- src/geometry.rt:63:9
 directions-of-requires-2 : tie.Need-directions-of-requires-2
 directions-of-requires-2 c κs = search needs
 
--- src/geometry.rt:68:8
 overlap-requires : tie.Need-overlap-requires
 overlap-requires c κs = search needs
 
--- src/geometry.rt:69:9
 overlap-requires-2 : tie.Need-overlap-requires-2
 overlap-requires-2 c κs = search needs
 
--- src/geometry.rt:58:1
 returns : tie.Need-returns
 returns c =
     let at-first = c .before .before in
@@ -34,7 +27,6 @@ returns c =
     (rw (at-first-corner, at-second-corner) at (c .overlap2 .ensures))
     (λ f s. record { along-x = f; along-y = s }) (λ b. b .along-y)
 
--- src/geometry.rt:58:1
 returns-2 : tie.Need-returns-2
 returns-2 c =
     decides-no (λ h.

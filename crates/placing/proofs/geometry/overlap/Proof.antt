@@ -1,66 +1,50 @@
+-- `placing::geometry::overlap` meets its contract: labels that face each other overlap where one lies ahead of the other.
+-- Assumes nothing.
 use native.Mathlib.Omega.{arith}
 use Rattle.placing.specs.Decides.{decides-same}
 use borrow.Author.Needs.{needs}
 use Rattle.placing.proofs.geometry.overlap.Statement.{statement}
 use Rattle.placing.proofs.geometry.overlap.Tie as tie
-use Rattle.placing.proofs.geometry.overlap.Reads as reads
-use Rattle.placing.proofs.geometry.overlap.Lts as lts
-use Rattle.placing.proofs.geometry.from_to.Reads as from-to-reads
-use Rattle.placing.proofs.geometry.same_way.Reads as same-way-reads
 
--- src/geometry.rt:46:26
 enum-told : tie.Need-enum-told
 enum-told c = search needs
 
--- src/geometry.rt:47:30
 enum-told-2 : tie.Need-enum-told-2
 enum-told-2 c = search needs
 
--- src/geometry.rt:47:30
 same-way-requires : tie.Need-same-way-requires
 same-way-requires c κs = search needs
 
--- src/geometry.rt:48:32
 enum-told-3 : tie.Need-enum-told-3
 enum-told-3 c = search needs
 
--- src/geometry.rt:48:32
 from-to-requires : tie.Need-from-to-requires
 from-to-requires c κs = search needs
 
--- src/geometry.rt:50:28
 enum-told-4 : tie.Need-enum-told-4
 enum-told-4 c = search needs
 
--- src/geometry.rt:51:30
 enum-told-5 : tie.Need-enum-told-5
 enum-told-5 c = search needs
 
--- src/geometry.rt:51:30
 from-to-requires-2 : tie.Need-from-to-requires-2
 from-to-requires-2 c κs = search needs
 
--- src/geometry.rt:52:32
 enum-told-6 : tie.Need-enum-told-6
 enum-told-6 c = search needs
 
--- src/geometry.rt:52:32
 same-way-requires-2 : tie.Need-same-way-requires-2
 same-way-requires-2 c κs = search needs
 
--- src/geometry.rt:41:1
 returns : tie.Need-returns
 returns c = rw (c .before .before .before .enum-told .given .1, c .before .enum-told2 .given .1) (c .same-way .ensures)
 
--- src/geometry.rt:41:1
 returns-2 : tie.Need-returns-2
 returns-2 c = rw (c .before .before .before .enum-told .given .1, c .before .enum-told3 .given .1) (decides-same (λ h. omega arith) (λ h. omega arith) (c .from-to .ensures))
 
--- src/geometry.rt:41:1
 returns-3 : tie.Need-returns-3
 returns-3 c = rw (c .before .before .before .enum-told4 .given .1, c .before .enum-told5 .given .1) (decides-same (λ h. omega arith) (λ h. omega arith) (c .from-to2 .ensures))
 
--- src/geometry.rt:41:1
 returns-4 : tie.Need-returns-4
 returns-4 c = rw (c .before .before .before .enum-told4 .given .1, c .before .enum-told6 .given .1) (c .same-way2 .ensures)
 

@@ -1,29 +1,23 @@
+-- `placing::geometry::same_way` meets its contract.
+-- Assumes nothing.
 use native.Mathlib.Omega.{arith}
 use borrow.Author.Tests.{ltb-true, ltb-false}
 use borrow.Author.Needs.{needs}
 use Rattle.placing.proofs.geometry.same_way.Statement.{statement}
 use Rattle.placing.proofs.geometry.same_way.Tie as tie
-use Rattle.placing.proofs.geometry.same_way.Reads as reads
-use Rattle.placing.proofs.geometry.same_way.Lts as lts
-use Rattle.placing.proofs.units.Units.in_half_units.Reads as in-half-units-reads
 
--- src/geometry.rt:21:9
 in-half-units-requires : tie.Need-in-half-units-requires
 in-half-units-requires c κs = search needs
 
--- src/geometry.rt:23:15
 sub-t10 : tie.Need-sub-t10
 sub-t10 c = search needs
 
--- src/geometry.rt:23:9
 in-half-units-requires-2 : tie.Need-in-half-units-requires-2
 in-half-units-requires-2 c κs = search needs
 
--- src/geometry.rt:16:1
 returns : tie.Need-returns
 returns c = record { yes-holds = λ e. omega (arith, ltb-true); no-fails = λ e h. omega (arith, ltb-false) }
 
--- src/geometry.rt:16:1
 returns-2 : tie.Need-returns-2
 returns-2 c = record { yes-holds = λ e. omega (arith, ltb-true); no-fails = λ e h. omega (arith, ltb-false) }
 

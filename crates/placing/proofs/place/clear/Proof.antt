@@ -1,3 +1,5 @@
+-- `placing::place::clear` meets its contract: the bytes passed are zero, the others as they were.
+-- Assumes nothing.
 use mathlib.Core.Path.{_≡_, refl, ap, _∙_}
 use mathlib.Core.List.{List, _++_}
 use Prim.Native.Nat.{ℕ, _≤_, _-_}
@@ -7,8 +9,6 @@ use borrow.Author.Needs.{needs}
 use borrow.Author.Fill.{fill-more}
 use Rattle.placing.proofs.place.clear.Statement.{statement}
 use Rattle.placing.proofs.place.clear.Tie as tie
-use Rattle.placing.proofs.place.clear.Reads as reads
-use Rattle.placing.proofs.place.clear.Lts as lts
 
 abbrev Inv-loop : tie.InvT-loop
 Inv-loop table₀ m i₀ table i = (i ≤ m) × (table ≡ replicate i 0 ++ drop i table₀) × (length table ≡ length table₀)
@@ -16,23 +16,18 @@ Inv-loop table₀ m i₀ table i = (i ≤ m) × (table ≡ replicate i 0 ++ drop
 abbrev μ-loop : tie.MeasureT-loop
 μ-loop table₀ m i₀ table i = m - i
 
--- src/place.rt:37:5
 loop-holds : tie.Need-loop-holds Inv-loop μ-loop
 loop-holds c = (search needs, refl, refl)
 
--- src/place.rt:38:9
 slice-write-table : tie.Need-slice-write-table Inv-loop μ-loop
 slice-write-table c = omega arith
 
--- src/place.rt:37:9
 add-i : tie.Need-add-i Inv-loop μ-loop
 add-i c = omega arith
 
--- src/place.rt:37:5
 loop-less : tie.Need-loop-less Inv-loop μ-loop
 loop-less c = omega arith
 
--- src/place.rt:37:5
 loop-again : tie.Need-loop-again Inv-loop μ-loop
 loop-again c =
     let at-loop = c .before in
@@ -42,11 +37,9 @@ loop-again c =
       simp length-set (at-loop .loop .inv .2),
     )
 
--- src/place.rt:33:1
 same-length : tie.Need-same-length Inv-loop μ-loop
 same-length c = c .before .loop .inv .2
 
--- src/place.rt:33:1
 returns : tie.Need-returns Inv-loop μ-loop
 returns c = let end : c .before .loop .i ≡ c .before .before .args .m = omega arith in rw end at (c .before .loop .inv .1)
 

@@ -1,3 +1,5 @@
+-- `placing::place::coordinates_of` meets its contract: the numbers so far are those of the sites passed, along either axis.
+-- Assumes nothing.
 use mathlib.Core.Path.{_≡_, refl, sym, ap, ap₂, _∙_}
 use mathlib.Core.List.{List, map}
 use Prim.Native.Nat.{ℕ, _+_, _≤_, _<_, _-_}
@@ -11,8 +13,6 @@ use Rattle.placing.specs.Sites.{sitesOf, length-sites, site-at}
 use Rattle.placing.proofs.Copied.{copied, copied-more, copied-at, zeros, length-zeros}
 use Rattle.placing.proofs.place.coordinates_of.Statement.{statement}
 use Rattle.placing.proofs.place.coordinates_of.Tie as tie
-use Rattle.placing.proofs.place.coordinates_of.Reads as reads
-use Rattle.placing.proofs.place.coordinates_of.Lts as lts
 
 -- the coordinate of a site, off the list of all
 axis-at : (f : Place → ℕ) → f nowhere ≡ 0 → (sites : List Place) (i : ℕ) → getD (map f sites) i 0 ≡ f (siteAt sites i)
@@ -50,44 +50,34 @@ Inv-loop n sites xs₀ ys₀ i₀ xs ys i =
 abbrev μ-loop : tie.MeasureT-loop
 μ-loop n sites xs₀ ys₀ i₀ xs ys i = n - i
 
--- src/place.rt:24:5
 loop-holds : tie.Need-loop-holds Inv-loop μ-loop
 unfolding zeros
 loop-holds c = (search needs, refl, refl, refl, refl)
 
--- src/place.rt:25:17
 mul-s : tie.Need-mul-s Inv-loop μ-loop
 mul-s c = search needs
 
--- src/place.rt:25:17
 array-copy-out-s : tie.Need-array-copy-out-s Inv-loop μ-loop
 array-copy-out-s c = search needs
 
--- src/place.rt:26:9
 mul-xs : tie.Need-mul-xs Inv-loop μ-loop
 mul-xs c = search needs
 
--- src/place.rt:26:9
 array-write-xs : tie.Need-array-write-xs Inv-loop μ-loop
 array-write-xs c = search needs
 
--- src/place.rt:27:9
 mul-ys : tie.Need-mul-ys Inv-loop μ-loop
 mul-ys c = search needs
 
--- src/place.rt:27:9
 array-write-ys : tie.Need-array-write-ys Inv-loop μ-loop
 array-write-ys c = search needs
 
--- src/place.rt:24:9
 add-i : tie.Need-add-i Inv-loop μ-loop
 add-i c = omega arith
 
--- src/place.rt:24:5
 loop-less : tie.Need-loop-less Inv-loop μ-loop
 loop-less c = omega arith
 
--- src/place.rt:24:5
 loop-again : tie.Need-loop-again Inv-loop μ-loop
 loop-again c =
     let at-loop = c .before .before in
@@ -102,7 +92,6 @@ loop-again c =
       simp length-set (before .4),
     )
 
--- src/place.rt:18:1
 returns : tie.Need-returns Inv-loop μ-loop
 returns c =
     let at-loop = c .before in

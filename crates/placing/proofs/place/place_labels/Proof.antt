@@ -1,3 +1,5 @@
+-- `placing::place::place_labels` meets its contract: the answer at the coordinates, and the cleared table.
+-- Assumes nothing.
 use mathlib.Core.Path.{_∙_, ap}
 use mathlib.Core.List.{List, _++_}
 use Prim.Native.Nat.{ℕ, _*_, _≤_}
@@ -11,35 +13,24 @@ use Rattle.placing.specs.Placed.{may-find, placedAs}
 use borrow.Author.Needs.{needs}
 use Rattle.placing.proofs.place.place_labels.Statement.{statement}
 use Rattle.placing.proofs.place.place_labels.Tie as tie
-use Rattle.placing.proofs.place.place_labels.Reads as reads
-use Rattle.placing.proofs.place.place_labels.Lts as lts
-use Rattle.placing.proofs.place.clear.Reads as clear-reads
-use Rattle.placing.proofs.place.coordinates_of.Reads as coordinates-of-reads
-use Rattle.placing.proofs.side.find_answer.Reads as find-answer-reads
 
--- src/place.rt:48:9
 coordinates-of-requires : tie.Need-coordinates-of-requires
 coordinates-of-requires c κs = search needs
 
--- src/place.rt:51:9
 find-answer-requires : tie.Need-find-answer-requires
 find-answer-requires c κs =
     let at-coordinates = c .before .before .before .before .before in
     may-find (at-coordinates .before .before .pre) (at-coordinates .coordinates-of .ensures)
 
--- src/place.rt:52:18
 mul-clear : tie.Need-mul-clear
 mul-clear c = search needs
 
--- src/place.rt:52:5
 clear-requires : tie.Need-clear-requires
 clear-requires c κs = search needs
 
--- src/place.rt:43:1
 same-length : tie.Need-same-length
 same-length c = search needs
 
--- src/place.rt:43:1
 returns : tie.Need-returns
 returns c =
     let at-clear = c .before .before in

@@ -1,3 +1,5 @@
+-- `placing::side::bisect` meets its contract: the lower end has a good choice and the upper one has none, until they are one apart.
+-- Assumes nothing.
 use mathlib.Core.Path.{_∙_}
 use Prim.Native.Nat.{ℕ, _-_}
 use native.Mathlib.Omega.{arith}
@@ -9,10 +11,6 @@ use Rattle.placing.specs.Marks.{kept-same, kept-twice}
 use Rattle.placing.specs.Bisect.{Between, between-starts, between-up, between-down, between-ends}
 use Rattle.placing.proofs.side.bisect.Statement.{statement}
 use Rattle.placing.proofs.side.bisect.Tie as tie
-use Rattle.placing.proofs.side.bisect.Reads as reads
-use Rattle.placing.proofs.side.bisect.Lts as lts
-use Rattle.placing.proofs.choice.choose.Reads as choose-reads
-use Rattle.placing.proofs.side.first_corners.Reads as first-corners-reads
 
 abbrev Inv-loop : tie.InvT-loop
 Inv-loop xs ys n crowding marks₀ low₀ high₀ corners₀ marks low high corners =
@@ -21,25 +19,20 @@ Inv-loop xs ys n crowding marks₀ low₀ high₀ corners₀ marks low high corn
 abbrev μ-loop : tie.MeasureT-loop
 μ-loop xs ys n crowding marks₀ low₀ high₀ corners₀ marks low high corners = high - low
 
--- src/side.rt:45:5
 loop-holds : tie.Need-loop-holds Inv-loop μ-loop
 loop-holds c =
     let may = c .before .pre in
     (kept-same, between-starts (may .distinct) (length-sites _ _ _) (may .held .few) (may .not-free))
 
--- src/side.rt:45:11
 add-loop : tie.Need-add-loop Inv-loop μ-loop
 add-loop c = omega arith
 
--- src/side.rt:46:29
 sub-middle : tie.Need-sub-middle Inv-loop μ-loop
 sub-middle c = omega arith
 
--- src/side.rt:46:22
 add-middle : tie.Need-add-middle Inv-loop μ-loop
 add-middle c = omega arith
 
--- src/side.rt:47:13
 choose-requires : tie.Need-choose-requires Inv-loop μ-loop
 choose-requires c κs =
     let at-loop = c .before .before in
@@ -50,11 +43,9 @@ choose-requires c κs =
       crowding-is = may .crowding-is;
     }
 
--- src/side.rt:45:5
 loop-less : tie.Need-loop-less Inv-loop μ-loop
 loop-less c = omega arith
 
--- src/side.rt:45:5
 loop-again : tie.Need-loop-again Inv-loop μ-loop
 loop-again c =
     let at-choose = c .before .before .before .before in
@@ -64,11 +55,9 @@ loop-again c =
       between-up (before .1) _ (omega arith) (omega arith) (at-choose .choose .result) (at-choose .choose .ensures .0) (c .before .if1 .taken),
     )
 
--- src/side.rt:45:5
 loop-less-2 : tie.Need-loop-less-2 Inv-loop μ-loop
 loop-less-2 c = omega arith
 
--- src/side.rt:45:5
 loop-again-2 : tie.Need-loop-again-2 Inv-loop μ-loop
 loop-again-2 c =
     let at-choose = c .before .before .before in
@@ -78,15 +67,12 @@ loop-again-2 c =
       between-down (before .1) _ (omega arith) (omega arith) (at-choose .choose .result) (at-choose .choose .ensures .0) (c .if1 .left),
     )
 
--- src/side.rt:56:9
 first-corners-requires : tie.Need-first-corners-requires Inv-loop μ-loop
 first-corners-requires c κs = c .before .before .before .pre .held .few
 
--- src/side.rt:37:1
 same-length : tie.Need-same-length Inv-loop μ-loop
 same-length c = c .before .before .loop .inv .0 .size
 
--- src/side.rt:37:1
 returns : tie.Need-returns Inv-loop μ-loop
 returns c =
     let at-loop = c .before .before in

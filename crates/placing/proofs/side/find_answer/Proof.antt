@@ -1,3 +1,5 @@
+-- `placing::side::find_answer` meets its contract: free where 20,001 has a good choice, else by bisection.
+-- Assumes nothing.
 use mathlib.Core.Path.{_∙_}
 use Rattle.placing.specs.declared.units.Side.the-variants.{Free}
 use Rattle.placing.specs.Sites.{length-sites}
@@ -6,30 +8,19 @@ use Rattle.placing.specs.Bisect.{free-placed, not-free}
 use borrow.Author.Needs.{needs}
 use Rattle.placing.proofs.side.find_answer.Statement.{statement}
 use Rattle.placing.proofs.side.find_answer.Tie as tie
-use Rattle.placing.proofs.side.find_answer.Reads as reads
-use Rattle.placing.proofs.side.find_answer.Lts as lts
-use Rattle.placing.proofs.choice.choose.Reads as choose-reads
-use Rattle.placing.proofs.crowding.crowding_of.Reads as crowding-of-reads
-use Rattle.placing.proofs.side.bisect.Reads as bisect-reads
-use Rattle.placing.proofs.side.first_corners.Reads as first-corners-reads
 
--- src/side.rt:69:9
 crowding-of-requires : tie.Need-crowding-of-requires
 crowding-of-requires c κs = search needs
 
--- src/side.rt:70:9
 choose-requires : tie.Need-choose-requires
 choose-requires c κs = search needs
 
--- src/side.rt:73:13
 first-corners-requires : tie.Need-first-corners-requires
 first-corners-requires c κs = search needs
 
--- src/side.rt:74:9
 same-length : tie.Need-same-length
 same-length c = search needs
 
--- src/side.rt:74:9
 returns : tie.Need-returns
 returns c =
     let at-choose = c .before .before .before .before .before in
@@ -39,7 +30,6 @@ returns c =
       at-choose .choose .ensures .1,
     )
 
--- src/side.rt:79:5
 bisect-requires : tie.Need-bisect-requires
 bisect-requires c κs =
     let at-choose = c .before .before .before .before in
@@ -52,11 +42,9 @@ bisect-requires c κs =
       not-free = not-free _ (at-start .args .n) (at-choose .choose .result) (at-choose .choose .ensures .0) (c .before .if1 .left);
     }
 
--- src/side.rt:64:1
 same-length-2 : tie.Need-same-length-2
 same-length-2 c = search needs
 
--- src/side.rt:64:1
 returns-2 : tie.Need-returns-2
 returns-2 c =
     let at-bisect = c .before .before in

@@ -1,3 +1,5 @@
+-- `placing::side::first_corners` meets its contract: the corners so far, then zeros.
+-- Assumes nothing.
 use mathlib.Core.Path.{_≡_, refl, ap, _∙_}
 use mathlib.Core.List.{List, _++_}
 use Prim.Native.Nat.{ℕ, _≤_, _-_}
@@ -7,8 +9,6 @@ use borrow.Author.Needs.{needs}
 use Rattle.placing.proofs.Copied.{copied, copied-more, zeros, length-zeros, drop-zeros}
 use Rattle.placing.proofs.side.first_corners.Statement.{statement}
 use Rattle.placing.proofs.side.first_corners.Tie as tie
-use Rattle.placing.proofs.side.first_corners.Reads as reads
-use Rattle.placing.proofs.side.first_corners.Lts as lts
 
 abbrev Inv-loop : tie.InvT-loop
 Inv-loop n corners first₀ i₀ first i = (i ≤ n) × (first ≡ copied i corners zeros) × (length first ≡ 240)
@@ -16,28 +16,22 @@ Inv-loop n corners first₀ i₀ first i = (i ≤ n) × (first ≡ copied i corn
 abbrev μ-loop : tie.MeasureT-loop
 μ-loop n corners first₀ i₀ first i = n - i
 
--- src/side.rt:29:5
 loop-holds : tie.Need-loop-holds Inv-loop μ-loop
 unfolding zeros
 loop-holds c = (search needs, refl, refl)
 
--- src/side.rt:30:20
 array-read-first : tie.Need-array-read-first Inv-loop μ-loop
 array-read-first c = search needs
 
--- src/side.rt:30:9
 array-write-first : tie.Need-array-write-first Inv-loop μ-loop
 array-write-first c = search needs
 
--- src/side.rt:29:9
 add-i : tie.Need-add-i Inv-loop μ-loop
 add-i c = omega arith
 
--- src/side.rt:29:5
 loop-less : tie.Need-loop-less Inv-loop μ-loop
 loop-less c = omega arith
 
--- src/side.rt:29:5
 loop-again : tie.Need-loop-again Inv-loop μ-loop
 loop-again c =
     let at-loop = c .before in
@@ -50,7 +44,6 @@ loop-again c =
       simp length-set (at-loop .loop .inv .2),
     )
 
--- src/side.rt:24:1
 returns : tie.Need-returns Inv-loop μ-loop
 returns c =
     let end : c .before .loop .i ≡ c .before .before .args .n = omega arith in

@@ -1,0 +1,58 @@
+-- `crowding::nearer` meets its contract: each call gives the number of one corner.
+-- Assumes nothing.
+use borrow.Author.Needs.{needs}
+use Rattle.placing.specs.Crowding.{aboveOf, Lowered, each-corner}
+use Rattle.placing.specs.declared.crowding.Above.{Above}
+use Rattle.placing.proofs.crowding.nearer.Statement.{statement}
+use Rattle.placing.proofs.crowding.nearer.Tie as tie
+
+distance-requires : tie.Need-distance-requires
+distance-requires c κs = search needs
+
+distance-requires-2 : tie.Need-distance-requires-2
+distance-requires-2 c κs = search needs
+
+larger-requires : tie.Need-larger-requires
+larger-requires c κs = search needs
+
+lowered-requires : tie.Need-lowered-requires
+lowered-requires c κs = search needs
+
+lowered-requires-2 : tie.Need-lowered-requires-2
+lowered-requires-2 c κs = search needs
+
+lowered-requires-3 : tie.Need-lowered-requires-3
+lowered-requires-3 c κs = search needs
+
+lowered-requires-4 : tie.Need-lowered-requires-4
+lowered-requires-4 c κs = search needs
+
+returns : tie.Need-returns
+returns c =
+    let one = c .before .before .before in
+    let asked = one .before .before .before .before .args in
+    let below : Above =
+    record {
+      first = one .lowered .result;
+      second = c .before .before .lowered2 .result;
+      third = c .before .lowered3 .result;
+      fourth = c .lowered4 .result;
+    }
+    in
+    record {
+      at-corner = each-corner (λ k. Lowered (asked .s) k (asked .t) (aboveOf (asked .above) k) (aboveOf below k))
+          (one .lowered .ensures) (c .before .before .lowered2 .ensures) (c .before .lowered3 .ensures) (c .lowered4 .ensures);
+    }
+
+pub nearer-spec : {M : Type 1} → statement M
+nearer-spec =
+    tie.close
+    (tie.spec
+    distance-requires
+    distance-requires-2
+    larger-requires
+    lowered-requires
+    lowered-requires-2
+    lowered-requires-3
+    lowered-requires-4
+    returns)

@@ -1,0 +1,77 @@
+// A small list of sites, without their names, and an answer to it.
+ghost use Prim.Native.Nat.{_≤_};
+
+pub struct Place {
+    pub x: u32,
+    pub y: u32,
+}
+
+// The first `n` of these places.
+pub struct Sites {
+    pub n: usize,
+    pub places: [Place; 7],
+}
+
+// The side that stands for free: a choice that is good there is good at every side.
+pub const FREE: u64 = 20_001;
+
+// A side from 1 to 20,000 or FREE, and a corner for each site. Side 0 is no answer.
+pub struct Answer {
+    pub side: u64,
+    pub corners: [u8; 7],
+}
+
+// Two answers to a list of `n` sites agree.
+pub fn same_answer(a: Answer, b: Answer, n: usize) -> bool
+    requires { ⌜ n ≤ 7 ⌝ }
+{
+    if a.side != b.side {
+        return false;
+    }
+    let first = a.corners;
+    let second = b.corners;
+    for i in 0..n {
+        if first[i] != second[i] {
+            return false;
+        }
+    }
+    true
+}
+
+// Some site is at this place.
+pub fn taken(sites: Sites, place: Place) -> bool
+    requires { ⌜ sites .n ≤ 7 ⌝ }
+{
+    let n = sites.n;
+    let places = sites.places;
+    for i in 0..n {
+        let p = places[i];
+        if p.x == place.x {
+            if p.y == place.y {
+                return true;
+            }
+        }
+    }
+    false
+}
+
+// Three sites or more, all with one x or all with one y.
+pub fn in_one_row(sites: Sites) -> bool
+    requires { ⌜ sites .n ≤ 7 ⌝ }
+{
+    let n = sites.n;
+    let places = sites.places;
+    let first = places[0];
+    let mut one_x = true;
+    let mut one_y = true;
+    for i in 0..n {
+        let p = places[i];
+        if p.x != first.x {
+            one_x = false;
+        }
+        if p.y != first.y {
+            one_y = false;
+        }
+    }
+    if n < 3 { false } else { one_x || one_y }
+}

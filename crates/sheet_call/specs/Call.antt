@@ -1,0 +1,82 @@
+-- The one call over bytes: what it gives for every list and every buffer, over the definitions of crate plan.
+-- Assumes nothing.
+use mathlib.Core.Path.{_≡_, refl, sym, _∙_, subst}
+use mathlib.Core.Bool.{Bool, true, false}
+use mathlib.Core.List.{List, [], _∷_, _++_}
+use Prim.Native.Nat.{ℕ, _≤_, _<_}
+use native.Mathlib.Omega.{arith}
+use lib.Dec.{ltb}
+use lib.ListN.{length, take, drop}
+use lib.Seq.{take-append-seam}
+use Rattle.plan.specs.declared.refusal.Refusal.{Refusal}
+use Rattle.plan.specs.declared.refusal.Refusal.the-variants.{NoSites, ShortBuffer}
+use Rattle.plan.specs.Refusal.{numberOf}
+use Rattle.plan.specs.Refusing.{number-small}
+use Rattle.plan.specs.Site.{Site, Listed}
+use Rattle.plan.specs.Enter.{Sites, accepted, refused}
+use Rattle.plan.specs.List.{readList, read-listed}
+use Rattle.plan.specs.Sheet.{sheetOf, sheet-shortest}
+use Rattle.plan.specs.Output.{outputOf, output-sheet}
+use Rattle.plan.specs.Demands.{NoRival}
+use Rattle.plan.specs.SheetLaws.{no-rival}
+
+-- The number that the call gives, and the buffer afterwards.
+pub record Called : Type 0 where
+  pub number : ℕ
+  pub buffer : List ℕ
+
+-- A refusal: its number, with the buffer as it came.
+abbrev pub refusal : Refusal → List ℕ → Called
+refusal why buffer = record { number = numberOf why; buffer = buffer }
+
+-- A sheet: its length, with the sheet at the front of the buffer and the bytes after it as they came; 10 where the buffer is shorter.
+abbrev pub sheetIn : (short : Bool) → List ℕ → List ℕ → Called
+sheetIn true sheet buffer = refusal ShortBuffer buffer
+sheetIn false sheet buffer = record { number = length sheet; buffer = sheet ++ drop (length sheet) buffer }
+
+-- For what the list is read as: the refusal, 8 for no sites, or the sheet of the sites.
+abbrev pub calledFor : Sites → List ℕ → Called
+calledFor (refused why) buffer = refusal why buffer
+calledFor (accepted []) buffer = refusal NoSites buffer
+calledFor (accepted (site ∷ sites)) buffer =
+    sheetIn (ltb (length buffer) (length (sheetOf (site ∷ sites)))) (sheetOf (site ∷ sites)) buffer
+
+-- For the bytes of a list.
+abbrev pub called : List ℕ → List ℕ → Called
+called list buffer = calledFor (readList list) buffer
+
+-- What the number tells a caller: from 18 on the buffer starts with what the placing program writes for the list, a sheet that no
+-- rival betters (demand 3); below 18 the buffer is as it came.
+pub record Told (list buffer : List ℕ) (number : ℕ) (after : List ℕ) : Type 0 where
+  pub sheet : 18 ≤ number → take number after ≡ outputOf list
+  pub rivals : 18 ≤ number → NoRival (take number after)
+  pub same : number < 18 → after ≡ buffer
+
+-- The number of a refusal is below 18.
+refusal-told : (list buffer : List ℕ) (why : Refusal) → Told list buffer (numberOf why) buffer
+refusal-told list buffer why =
+    let small = number-small why in
+    record { sheet = λ long. absurd (omega arith); rivals = λ long. absurd (omega arith); same = λ short. refl }
+
+-- No sheet is that short.
+sheet-told : (list buffer : List ℕ) (sites : List Site) → readList list ≡ accepted sites → 1 ≤ length sites → (short : Bool)
+    → Told list buffer (sheetIn short (sheetOf sites) buffer .number) (sheetIn short (sheetOf sites) buffer .buffer)
+sheet-told list buffer sites read some-site true = refusal-told list buffer ShortBuffer
+sheet-told list buffer sites read some-site false =
+    let front = take-append-seam (sheetOf sites) (drop (length (sheetOf sites)) buffer) in
+    let listed = read-listed list sites read in
+    record {
+      sheet = λ long. front ∙ sym (output-sheet list sites read some-site);
+      rivals = λ long. subst NoRival (sym front) (no-rival sites listed);
+      same = λ short. absurd (omega (arith, sheet-shortest sites listed some-site));
+    }
+
+-- So the number tells which it is.
+pub call-told : (list buffer : List ℕ) → Told list buffer (called list buffer .number) (called list buffer .buffer)
+call-told list buffer = by-sites (readList list) refl
+  where
+    by-sites : (sites : Sites) → readList list ≡ sites → Told list buffer (calledFor sites buffer .number) (calledFor sites buffer .buffer)
+    by-sites (refused why) read = refusal-told list buffer why
+    by-sites (accepted []) read = refusal-told list buffer NoSites
+    by-sites (accepted (site ∷ sites)) read =
+        sheet-told list buffer (site ∷ sites) read (omega arith) (ltb (length buffer) (length (sheetOf (site ∷ sites))))

@@ -1,0 +1,112 @@
+-- What reading, placing and writing one after the other make of a list and a buffer: the call.
+-- Assumes nothing.
+use mathlib.Core.Path.{_≡_, refl, sym, ap, ap₂, _∙_, subst}
+use mathlib.Core.Bool.{Bool, true, false}
+use mathlib.Core.List.{List, [], _∷_}
+use Prim.Native.Nat.{ℕ, _≤_}
+use native.Mathlib.Omega.{arith}
+use lib.Dec.{ltb}
+use lib.ListN.{length}
+use Rattle.plan.specs.declared.plan.Planned.{Planned}
+use Rattle.plan.specs.declared.plan.Written.{Written}
+use Rattle.plan.specs.declared.plan.Written.the-variants.{Bytes, NotWritten}
+use Rattle.plan.specs.declared.refusal.Outcome.{Outcome}
+use Rattle.plan.specs.declared.refusal.Outcome.the-variants.{Done, Refused}
+use Rattle.plan.specs.declared.refusal.Refusal.{Refusal}
+use Rattle.plan.specs.declared.refusal.Refusal.the-variants.{NoSites}
+use Rattle.plan.specs.Refusal.{numberOf}
+use Rattle.plan.specs.Refusing.{refusal-short}
+use Rattle.plan.specs.Site.{Site}
+use Rattle.plan.specs.Enter.{Sites, accepted, refused}
+use Rattle.plan.specs.List.{readList, read-listed}
+use Rattle.plan.specs.Sheet.{sheetOf, sheet-shortest}
+use Rattle.plan.specs.Plan.{unplaced}
+use Rattle.plan.specs.Calls.{plannedOr, started, readFrom, placedIn, written, bufferAfter, filledWhere}
+use Rattle.plan.specs.Output.{outputOf, outputWhere, output-sheet}
+use Rattle.plan.specs.Filling.{place-refused, place-done, sheet-filled, Filled}
+use Rattle.sheet_call.specs.Call.{Called, Told, refusal, sheetIn, calledFor, called, call-told}
+
+-- What the contract says of a number and of a buffer afterwards.
+abbrev pub Meets : (list buffer : List ℕ) (number : ℕ) (after : List ℕ) → Type 0
+Meets list buffer number after =
+    (number ≡ called list buffer .number) × ((after ≡ called list buffer .buffer) × Told list buffer number after)
+
+-- It holds of those of the call,
+pub call-meets : (list buffer : List ℕ) {after : List ℕ} {number : ℕ} → called list buffer ≡ record { number = number; buffer = after }
+    → Meets list buffer number after
+call-meets list buffer is =
+    subst (λ (c : Called). Meets list buffer (c .number) (c .buffer)) is (refl, (refl, call-told list buffer))
+
+-- and of a refusal's number.
+pub refusal-meets : (list buffer : List ℕ) {after : List ℕ} {number : ℕ} (why : Refusal) → called list buffer ≡ refusal why after
+    → number ≡ numberOf why → Meets list buffer number after
+refusal-meets list buffer {after} why is number-is =
+    subst (λ (n : ℕ). Meets list buffer n after) (sym number-is) (call-meets list buffer is)
+
+-- The answer of a call that hands back a plan.
+abbrev outcomeOf : Planned → Outcome
+outcomeOf p = p .outcome
+
+-- Reading is refused.
+pub read-refuses : (list buffer : List ℕ) {listed : Planned} {why : Refusal} → listed ≡ readFrom list → listed .outcome ≡ Refused why
+    → called list buffer ≡ refusal why buffer
+read-refuses list buffer {listed} {why} listed-is is = by-sites (readList list) (ap outcomeOf (sym listed-is) ∙ is)
+  where
+    by-sites : (sites : Sites) → plannedOr started sites .outcome ≡ Refused why → calledFor sites buffer ≡ refusal why buffer
+    by-sites (accepted sites) is = let z : _≡_ {A = ℕ} 0 1 = cc in absurd (omega arith)
+    by-sites (refused other) is = let same : other ≡ why = cc in ap (λ (w : Refusal). refusal w buffer) same
+
+-- What writing answers and leaves in the buffer, as the call gives it.
+abbrev pub asCalled : Written → List ℕ → Called
+asCalled (Bytes n) after = record { number = n; buffer = after }
+asCalled (NotWritten why) after = refusal why after
+
+-- Filling a buffer with a sheet is what the call does for a list of sites.
+filled-called : (sheet buffer : List ℕ) {answer : Written} {after : List ℕ} → Filled sheet buffer answer after
+    → sheetIn (ltb (length buffer) (length sheet)) sheet buffer ≡ asCalled answer after
+filled-called sheet buffer filled =
+    by-room (ltb (length buffer) (length sheet)) ∙ sym (ap₂ asCalled (filled .answer-is) (filled .after-is))
+  where
+    by-room : (short : Bool)
+        → sheetIn short sheet buffer ≡ asCalled (outputWhere short sheet) (filledWhere (outputWhere short sheet) sheet buffer)
+    by-room true = refl
+    by-room false = refl
+
+-- A list that is read, and placed with a table for every plan.
+module _ (list buffer table : List ℕ) {listed done : Planned} (size : length table ≡ 57600) (listed-is : listed ≡ readFrom list)
+    (is-read : listed .outcome ≡ Done) (done-is : done ≡ placedIn (listed .plan) table) where
+  -- How placing ends, from the list.
+  ends : {end : Outcome} → done .outcome ≡ end → placedIn (plannedOr started (readList list) .plan) table .outcome ≡ end
+  ends is = ap (λ (p : Planned). placedIn (p .plan) table .outcome) (sym listed-is) ∙ ap outcomeOf (sym done-is) ∙ is
+
+  -- Placing is refused: the list has no sites, since no line of a refusal is as long as a sheet.
+  pub place-refuses : {why : Refusal} → done .outcome ≡ Refused why → called list buffer ≡ refusal why buffer
+  unfolding unplaced
+  place-refuses {why} is = by-sites (readList list) refl (ap outcomeOf (sym listed-is) ∙ is-read) (ends is)
+    where
+      by-sites : (sites : Sites) → readList list ≡ sites → plannedOr started sites .outcome ≡ Done
+          → placedIn (plannedOr started sites .plan) table .outcome ≡ Refused why → calledFor sites buffer ≡ refusal why buffer
+      by-sites (refused other) read reads end = let z : _≡_ {A = ℕ} 0 1 = cc in absurd (omega arith)
+      by-sites (accepted []) read reads end = let same : NoSites ≡ why = cc in ap (λ (w : Refusal). refusal w buffer) same
+      by-sites (accepted (site ∷ sites)) read reads end =
+          let line = place-refused list table why size listed-is is-read done-is is in
+          let sheet = output-sheet list (site ∷ sites) read (omega arith) in
+          let short : length (sheetOf (site ∷ sites)) ≤ 14 = rw (← sheet, line) (refusal-short why) in
+          absurd (omega (arith, sheet-shortest (site ∷ sites) (read-listed list (site ∷ sites) read) (omega arith)))
+
+  -- Placing is accepted, and the plan is written.
+  pub write-calls : {answer : Written} {after : List ℕ} → done .outcome ≡ Done → answer ≡ written (done .plan) buffer
+      → after ≡ bufferAfter (done .plan) buffer → called list buffer ≡ asCalled answer after
+  unfolding unplaced
+  write-calls {answer} {after} is answered left = by-sites (readList list) refl (ap outcomeOf (sym listed-is) ∙ is-read) (ends is)
+    where
+      filled : Filled (outputOf list) buffer answer after
+      filled = sheet-filled buffer (place-done list table size listed-is is-read done-is is) answered left
+
+      by-sites : (sites : Sites) → readList list ≡ sites → plannedOr started sites .outcome ≡ Done
+          → placedIn (plannedOr started sites .plan) table .outcome ≡ Done → calledFor sites buffer ≡ asCalled answer after
+      by-sites (refused other) read reads end = let z : _≡_ {A = ℕ} 0 1 = cc in absurd (omega arith)
+      by-sites (accepted []) read reads end = let z : _≡_ {A = ℕ} 0 1 = cc in absurd (omega arith)
+      by-sites (accepted (site ∷ sites)) read reads end =
+          filled-called (sheetOf (site ∷ sites)) buffer
+          (subst (λ (sheet : List ℕ). Filled sheet buffer answer after) (output-sheet list (site ∷ sites) read (omega arith)) filled)

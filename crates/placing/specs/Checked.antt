@@ -12,12 +12,14 @@ use lib.ListN.{length}
 use Rattle.placing.specs.declared.units.Place.{Place}
 use Rattle.placing.specs.declared.units.Side.{Side}
 use Rattle.placing.specs.declared.units.Side.the-variants.{Number, Free}
-use Rattle.placing.specs.Units.{xOf, yOf, siteAt, Same, Distinct, greatestSide, freeSide}
+use Rattle.placing.specs.Units.{siteAt, Distinct, greatestSide, freeSide}
 use Rattle.placing.specs.Decides.{Decides, decides-same, decides-no, decides-yes}
 use Rattle.placing.specs.Decide.{
   le-decides,
   eq-decides,
   both-decide,
+  samePlace,
+  same-decides,
   not-decides,
   allBelow,
   all-decides,
@@ -26,18 +28,9 @@ use Rattle.placing.specs.Enumerate.{found-first, nothing-found}
 use Rattle.placing.specs.Answer.{Answer, answerOf, answer-found, answer-free}
 use Rattle.placing.specs.Prune.{prunedFirst, pruned-first}
 
--- Two sites stand at the same place.
-abbrev sameTest : Place → Place → Bool
-sameTest s t = eqb (xOf s) (xOf t) && eqb (yOf s) (yOf t)
-
-same-decides : (s t : Place) → Decides (sameTest s t) (Same s t)
-same-decides s t =
-    decides-same (λ r. record { same-x = r .0; same-y = r .1 }) (λ r. (r .same-x, r .same-y))
-    (both-decide (eq-decides (xOf s) (xOf t)) (eq-decides (yOf s) (yOf t)))
-
 -- Places are distinct.
 abbrev distinctTest : List Place → Bool
-distinctTest ps = allBelow (length ps) (λ i. allBelow (length ps) (λ j. not (not (eqb i j) && sameTest (siteAt ps i) (siteAt ps j))))
+distinctTest ps = allBelow (length ps) (λ i. allBelow (length ps) (λ j. not (not (eqb i j) && samePlace (siteAt ps i) (siteAt ps j))))
 
 distinct-decides : (ps : List Place) → Decides (distinctTest ps) (Distinct ps)
 distinct-decides ps =
@@ -104,7 +97,7 @@ answer-right {ps} (Number h) cs d t =
     answer-found d (r .0 .0) (r .0 .1) (found-first (pruned-first (h .0) ps) (r .1 .0)) (nothing-found (pruned-first (suc (h .0)) ps) (r .1 .1))
 
 -- The places of an answer that passes its test are distinct,
-pub checked-distinct : (ps : List Place) (a : Answer) → T (checkedTest ps a) → Distinct ps
+checked-distinct : (ps : List Place) (a : Answer) → T (checkedTest ps a) → Distinct ps
 checked-distinct ps a t = passed (distinct-decides ps) (both-passed (distinctTest ps) (answerTest ps (a .side) (a .corners)) t .0)
 
 -- and it is the answer.

@@ -17,6 +17,10 @@ halves d = 2 * d
 abbrev pub dist : ℕ → ℕ → ℕ
 dist a b = (a - b) + (b - a)
 
+-- The most sites of a plan.
+abbrev pub mostSites : ℕ
+mostSites = 240
+
 -- The greatest coordinate, in units.
 abbrev pub greatestCoordinate : ℕ
 greatestCoordinate = 10000

@@ -17,7 +17,7 @@ ghost use Rattle.placing.specs.Asks.{MayWalk, MayChoose};
 ghost use Rattle.placing.specs.Chosen.{choiceIn};
 
 // The corners of a good choice, where there is one.
-pub struct Chosen {
+pub(crate) struct Chosen {
     pub ok: bool,
     pub corners: [u8; 240],
 }
@@ -79,7 +79,7 @@ fn walk(
 }
 
 // The first good choice at a side, or none.
-pub fn choose(
+pub(crate) fn choose(
     xs: &[u32; 240],
     ys: &[u32; 240],
     n: usize,

@@ -4,12 +4,12 @@ ghost use lib.Dec.{eqb};
 ghost use Rattle.placing.specs.Corner.{upWhere, directionsOf, Corner};
 
 // Which way a label goes from its site: up the axis (to the right, upwards) or down it.
-pub enum Direction {
+pub(crate) enum Direction {
     Up,
     Down,
 }
 
-pub struct Directions {
+pub(crate) struct Directions {
     pub x: Direction,
     pub y: Direction,
 }
@@ -28,7 +28,7 @@ fn direction_from(up: u8) -> Direction
 }
 
 // A corner's two directions, off the table.
-pub fn directions_of(corner: u8) -> Directions
+pub(crate) fn directions_of(corner: u8) -> Directions
     requires { ⌜ Corner corner ⌝ }
     ensures { λ r. ⌜ r ≡ directionsOf corner ⌝ }
 {

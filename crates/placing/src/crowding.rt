@@ -12,7 +12,7 @@ ghost use Rattle.placing.specs.Sites.{Held, sitesOf};
 ghost use Rattle.placing.specs.Crowding.{apart, Lowered, Nearer, SiteCrowding, CrowdingIs, judgedFree};
 
 // For each corner, a number for each site: at the sides above it the corner is crowded.
-pub struct Crowding {
+pub(crate) struct Crowding {
     pub first: [u32; 240],
     pub second: [u32; 240],
     pub third: [u32; 240],
@@ -20,7 +20,7 @@ pub struct Crowding {
 }
 
 // The numbers of one site.
-pub struct Above {
+pub(crate) struct Above {
     pub first: u32,
     pub second: u32,
     pub third: u32,
@@ -97,7 +97,7 @@ fn crowded_above(xs: &[u32; 240], ys: &[u32; 240], n: usize, i: usize) -> Above
 }
 
 // The numbers of all sites.
-pub fn crowding_of(xs: &[u32; 240], ys: &[u32; 240], n: usize) -> Crowding
+pub(crate) fn crowding_of(xs: &[u32; 240], ys: &[u32; 240], n: usize) -> Crowding
     requires { ⌜ Held n (now xs) (now ys) judgedFree ⌝ }
     ensures { λ r. ⌜ CrowdingIs (sitesOf n (now (xs .entry)) (now (ys .entry))) n r ⌝ }
 {

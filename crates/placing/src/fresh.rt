@@ -35,7 +35,7 @@ fn open_row(
 }
 
 // The state at a side, before anything is decided.
-pub fn fresh_state(crowding: Crowding, n: usize, side: HalfUnits) -> State
+pub(crate) fn fresh_state(crowding: Crowding, n: usize, side: HalfUnits) -> State
     requires { ⌜ n ≤ 240 ⌝ }
     ensures { λ r. ⌜ FreshState crowding n side (r .ways) (r .decided) ⌝ }
 {

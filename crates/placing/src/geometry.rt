@@ -39,7 +39,7 @@ fn from_to(side: HalfUnits, from: Units, to: Units) -> bool
 }
 
 // Along one axis, the label that goes `d` from `a` overlaps the one that goes `e` from `b`.
-pub fn overlap(side: HalfUnits, d: Direction, a: Units, e: Direction, b: Units) -> bool
+pub(crate) fn overlap(side: HalfUnits, d: Direction, a: Units, e: Direction, b: Units) -> bool
     requires { ⌜ OnAxis a × OnAxis b × Judged side ⌝ }
     ensures { λ r. ⌜ Decides r (Overlap (side .0) 1 d (a .0) e (b .0)) ⌝ }
 {
@@ -56,7 +56,7 @@ pub fn overlap(side: HalfUnits, d: Direction, a: Units, e: Direction, b: Units) 
 }
 
 // The pair test: the label at corner `c` of `s` meets the label at corner `e` of `t`.
-pub fn meet(side: HalfUnits, s: Place, c: u8, t: Place, e: u8) -> bool
+pub(crate) fn meet(side: HalfUnits, s: Place, c: u8, t: Place, e: u8) -> bool
     requires { ⌜ OnPlan s × OnPlan t × Corner c × Corner e × Judged side ⌝ }
     ensures { λ r. ⌜ Decides r (Meet (side .0) 1 s c t e) ⌝ }
 {
@@ -74,7 +74,7 @@ pub fn meet(side: HalfUnits, s: Place, c: u8, t: Place, e: u8) -> bool
 }
 
 // Along one axis, `to` lies ahead of `from` in direction `d`, below `side` units.
-pub fn ahead(side: HalfUnits, d: Direction, from: Units, to: Units) -> bool
+pub(crate) fn ahead(side: HalfUnits, d: Direction, from: Units, to: Units) -> bool
     requires { ⌜ OnAxis from × OnAxis to × Judged side ⌝ }
     ensures { λ r. ⌜ Decides r (Ahead (side .0) d (from .0) (to .0)) ⌝ }
 {
@@ -85,7 +85,7 @@ pub fn ahead(side: HalfUnits, d: Direction, from: Units, to: Units) -> bool
 }
 
 // The doubled label at corner `c` of `s` covers the place `t`.
-pub fn doubled_covers(side: HalfUnits, s: Place, c: u8, t: Place) -> bool
+pub(crate) fn doubled_covers(side: HalfUnits, s: Place, c: u8, t: Place) -> bool
     requires { ⌜ OnPlan s × OnPlan t × Corner c × Judged side ⌝ }
     ensures { λ r. ⌜ Decides r (DoubledCovers (side .0) s c t) ⌝ }
 {

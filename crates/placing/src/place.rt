@@ -10,7 +10,7 @@ ghost use Rattle.placing.specs.Answer.{answerOf};
 ghost use Rattle.placing.specs.Placed.{placedAs, MayPlace, CoordinatesOf};
 
 // The places of a list, an array for each axis: a trial reads single numbers.
-pub struct Coordinates {
+pub(crate) struct Coordinates {
     pub xs: [u32; 240],
     pub ys: [u32; 240],
 }

@@ -67,7 +67,7 @@ fn bisect(
 }
 
 // The answer for the first `n` sites at these coordinates.
-pub fn find_answer(xs: &[u32; 240], ys: &[u32; 240], n: usize, marks: &mut [u8]) -> Placed
+pub(crate) fn find_answer(xs: &[u32; 240], ys: &[u32; 240], n: usize, marks: &mut [u8]) -> Placed
     requires { ⌜ MayFind n (now xs) (now ys) (now marks) ⌝ }
     ensures answer { λ r. ⌜ r ≡ placedAs (answerOf (sitesOf n (now (xs .entry)) (now (ys .entry)))) ⌝ }
     ensures kept { λ r. ⌜ Kept n (now (marks .entry)) (now (marks .exit)) ⌝ }

@@ -15,20 +15,20 @@ ghost use Rattle.placing.specs.Ways.{rowAt, LeftIs, Sizes, TakenCorner, 
 ghost use Rattle.placing.specs.Asks.{MayCarryTo, MayCarryOut, MayCarryOn, MayTry};
 
 // Which corners of a site are open: nothing, one, or more.
-pub enum Left {
+pub(crate) enum Left {
     Nothing,
     One(u8),
     More,
 }
 
 // Which corners are open and which is decided, for every site.
-pub struct State {
+pub(crate) struct State {
     pub ways: [u8; 960],
     pub decided: [u8; 240],
 }
 
 // A state, and whether it was reached.
-pub struct Attempt {
+pub(crate) struct Attempt {
     pub ok: bool,
     pub state: State,
 }
@@ -221,7 +221,7 @@ fn take_corner(ways: &mut [u8; 960], decided: &mut [u8; 240], i: usize, c: u8)
 }
 
 // Tries corner `c` of site `i` on a copy of the state.
-pub fn try_corner(
+pub(crate) fn try_corner(
     xs: &[u32; 240],
     ys: &[u32; 240],
     n: usize,

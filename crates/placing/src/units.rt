@@ -34,7 +34,7 @@ impl Limits {
 
     pub const GREATEST_SIDE: u32 = 20_000;
     // The side at which free is judged.
-    pub const FREE_SIDE: u32 = 20_001;
+    pub const FREE_SIDE: u32 = Limits::GREATEST_SIDE + 1;
 }
 
 impl Units {

@@ -24,7 +24,7 @@ use Rattle.plan.specs.Name.{bytesOf, name-short, name-held}
 use Rattle.plan.specs.Site.{Site, placeOf, placesOf, noSite, Listed, place-at}
 use Rattle.plan.specs.List.{listLine}
 use Rattle.plan.specs.Sheet.{sideText, siteLines, sheetWith, sheetOf, answer-corners}
-use Rattle.plan.specs.SheetParts.{sideLine, siteLine, SideSmall}
+use Rattle.plan.specs.SheetParts.{sideLineEnded, siteLineEnded, SideSmall}
 use Rattle.plan.specs.Taken.{siteOf}
 use Rattle.plan.specs.Plan.{nameRecord, placed, unplaced, sitesIn, sites-placed, Valid, is-placed, is-unplaced}
 use Rattle.plan.specs.Put.{Put}
@@ -46,12 +46,12 @@ pub corner-text-short : (corner : ℕ) → Corner corner → length (decimal cor
 corner-text-short corner is = rw (decimal-digit corner (omega arith)) (omega arith)
 
 -- So the first line is at most 11 bytes,
-pub side-line-short : (side : Side) → SideSmall side → length (sideLine side) ≤ 11
+pub side-line-short : (side : Side) → SideSmall side → length (sideLineEnded side) ≤ 11
 side-line-short side small = let short = side-text-short side small in simp length-append (omega arith)
 
 -- and the line of a site at most 23.
 site-line-short : (name : Name) (place : Place) (corner : ℕ) → name .len ≤ 8 → OnPlan place → Corner corner
-    → length (siteLine (siteOf name place) corner) ≤ 23
+    → length (siteLineEnded (siteOf name place) corner) ≤ 23
 unfolding listLine
 site-line-short name place corner short on is =
     let name-short = name-text-short name short in
@@ -64,7 +64,7 @@ site-line-short name place corner short on is =
 
 -- The lines of one site more.
 site-lines-more : (sites : List Site) (corners : List ℕ) (i : ℕ) → i < length sites → i < length corners
-    → siteLines (take (suc i) sites) corners ≡ siteLines (take i sites) corners ++ siteLine (getD sites i noSite) (getD corners i 0)
+    → siteLines (take (suc i) sites) corners ≡ siteLines (take i sites) corners ++ siteLineEnded (getD sites i noSite) (getD corners i 0)
 unfolding siteLines
 site-lines-more [] corners i in-sites in-corners = absurd (not-suc-le-zero in-sites)
 site-lines-more (site ∷ sites) [] i in-sites in-corners = absurd (not-suc-le-zero in-corners)
@@ -72,7 +72,7 @@ site-lines-more (site ∷ sites) (corner ∷ corners) zero in-sites in-corners =
 site-lines-more (site ∷ sites) (corner ∷ corners) (suc i) in-sites in-corners =
     rw (site-lines-more sites corners i (le-of-suc-le-suc in-sites) (le-of-suc-le-suc in-corners), siteLines)
     (sym (append-assoc (listLine site ++ (tab ∷ decimal corner)) (lineFeed ∷ siteLines (take i sites) corners)
-    (siteLine (getD sites i noSite) (getD corners i 0))))
+    (siteLineEnded (getD sites i noSite) (getD corners i 0))))
 
 -- Corners past the last site do not matter.
 lines-past : (sites : List Site) (corners more : List ℕ) → length sites ≤ length corners
@@ -85,14 +85,14 @@ lines-past (site ∷ sites) (corner ∷ corners) more enough =
 
 -- A sheet is its first line and then the others.
 sheet-of-lines : (sites : List Site) (answer : Answer)
-    → sideLine (answer .side) ++ siteLines sites (answer .corners) ≡ sheetWith sites answer
+    → sideLineEnded (answer .side) ++ siteLines sites (answer .corners) ≡ sheetWith sites answer
 unfolding sheetWith
 sheet-of-lines sites answer = simp append-assoc
 
 -- The line of a site, part by part.
 pub line-parts : (site : Site) (corner : ℕ)
     → site .name ++ (tab ∷ (decimal (xOf (site .place)) ++ (tab ∷ (decimal (yOf (site .place)) ++ (tab ∷ (decimal corner ++ (lineFeed ∷ [])))))))
-    ≡ siteLine site corner
+    ≡ siteLineEnded site corner
 unfolding listLine
 line-parts site corner = simp append-assoc
 
@@ -118,8 +118,8 @@ pub record Printable (plan : Plan) : Type 0 where
   pub on-plan : (i : ℕ) → i < plan .count → OnPlan (getD (plan .places) i nowhere)
   pub corner : (i : ℕ) → i < plan .count → Corner (getD (plan .corners) i 0)
   pub no-line : linesTo plan 0 ≡ []
-  pub one-line : (i : ℕ) → i < plan .count → linesTo plan (suc i) ≡ linesTo plan i ++ siteLine (siteHeld plan i) (getD (plan .corners) i 0)
-  pub whole : sideLine (plan .side) ++ linesTo plan (plan .count) ≡ sheetOf (sitesIn plan)
+  pub one-line : (i : ℕ) → i < plan .count → linesTo plan (suc i) ≡ linesTo plan i ++ siteLineEnded (siteHeld plan i) (getD (plan .corners) i 0)
+  pub whole : sideLineEnded (plan .side) ++ linesTo plan (plan .count) ≡ sheetOf (sitesIn plan)
 
 -- What a list's elements were made to, with more behind it, at the number of an element.
 held-at : {A B : Type 0} (f : A → B) (l : List A) (more : List B) (i : ℕ) (d : B) (e : A) → i < length l
@@ -180,20 +180,20 @@ module _ (sites : List Site) (listed : Listed sites) where
 
   -- One site more is one line more,
   one-line-held : (i : ℕ) → i < length sites
-      → linesTo (placed sites) (suc i) ≡ linesTo (placed sites) i ++ siteLine (siteHeld (placed sites) i) (getD (placed sites .corners) i 0)
+      → linesTo (placed sites) (suc i) ≡ linesTo (placed sites) i ++ siteLineEnded (siteHeld (placed sites) i) (getD (placed sites .corners) i 0)
   unfolding placed
   one-line-held i below =
       lines-held (suc i)
       ∙ site-lines-more sites (placed sites .corners) i below
       (simp length-append (omega (arith, corners-enough)))
-      ∙ ap₂ (λ (lines : List ℕ) (site : Site). lines ++ siteLine site (getD (placed sites .corners) i 0)) (sym (lines-held i))
+      ∙ ap₂ (λ (lines : List ℕ) (site : Site). lines ++ siteLineEnded site (getD (placed sites .corners) i 0)) (sym (lines-held i))
       (sym (site-held i below))
 
   -- and all lines, with the first, are the sheet.
-  whole-held : sideLine (placed sites .side) ++ linesTo (placed sites) (length sites) ≡ sheetOf (sitesIn (placed sites))
+  whole-held : sideLineEnded (placed sites .side) ++ linesTo (placed sites) (length sites) ≡ sheetOf (sitesIn (placed sites))
   unfolding placed sheetOf
   whole-held =
-      ap (λ (lines : List ℕ). sideLine (placed sites .side) ++ lines)
+      ap (λ (lines : List ℕ). sideLineEnded (placed sites .side) ++ lines)
       (lines-held (length sites)
       ∙ ap (λ (l : List Site). siteLines l (placed sites .corners)) (take-length sites)
       ∙ lines-past sites (answerOf (placesOf sites) .corners) _ (omega (arith, corners-enough)))
@@ -241,7 +241,7 @@ module _ {plan : Plan} {out₀ out : List ℕ} {at₀ at i : ℕ} (print : Print
 
   -- with it there is one line more,
   pub composed-more : {later : List ℕ} {next : ℕ} → i < plan .count
-      → Put out at (siteLine (siteHeld plan i) (getD (plan .corners) i 0)) next later → Composed plan out₀ at₀ later next (i + 1)
+      → Put out at (siteLineEnded (siteHeld plan i) (getD (plan .corners) i 0)) next later → Composed plan out₀ at₀ later next (i + 1)
   composed-more more put =
       record {
         counted = omega arith;
@@ -257,8 +257,8 @@ module _ {plan : Plan} {out₀ out : List ℕ} {at₀ at i : ℕ} (print : Print
       }
 
   -- and after the last line the sheet is written.
-  pub composed-end : {first : List ℕ} → Put first 0 (sideLine (plan .side)) at₀ out₀ → plan .count ≤ i
+  pub composed-end : {first : List ℕ} → Put first 0 (sideLineEnded (plan .side)) at₀ out₀ → plan .count ≤ i
       → Put first 0 (sheetOf (sitesIn plan)) at out
   composed-end side-put done =
       let last : i ≡ plan .count = omega (arith, so-far .counted) in
-      put-same (put-then side-put (so-far .lines)) (ap (λ (k : ℕ). sideLine (plan .side) ++ linesTo plan k) last ∙ print .whole)
+      put-same (put-then side-put (so-far .lines)) (ap (λ (k : ℕ). sideLineEnded (plan .side) ++ linesTo plan k) last ∙ print .whole)

@@ -1,19 +1,54 @@
--- The demands of document 01 on what is written, as definitions over bytes. The contracts and theorems cite these names.
+-- The three demands of document 01, in its order: the whole claim on what a list gives. The contracts of write and output cite
+-- these names. Each call by itself states its answer, and the number of it, as an equation with a definition of Calls:
+-- enterNumber, readNumber, placeNumber, askSideNumber, askCornerNumber, writeNumber.
 -- Assumes nothing.
 use mathlib.Core.Path.{_≡_}
-use mathlib.Core.List.{List}
-use mathlib.Core.Option.{some}
+use mathlib.Core.List.{List, []}
+use mathlib.Core.Option.{some, none}
 use Prim.Native.Nat.{ℕ, _*_, _≤_, _<_}
 use lib.ListN.{length, take}
+use Rattle.placing.specs.declared.units.HalfUnits.{HalfUnits}
+use Rattle.placing.specs.declared.units.Place.{Place}
+use Rattle.placing.specs.declared.units.Side.the-variants.{Number, Free}
 use Rattle.placing.specs.Choice.{Corners}
+use Rattle.placing.specs.Answer.{Answer, answerOf, IsAnswer}
 use Rattle.placing.specs.Twice.{MeetingPair}
 use Rattle.plan.specs.declared.plan.Written.{Written}
 use Rattle.plan.specs.declared.plan.Written.the-variants.{Bytes, NotWritten}
-use Rattle.plan.specs.Site.{Site}
+use Rattle.plan.specs.Site.{Site, placesOf}
 use Rattle.plan.specs.Enter.{accepted}
 use Rattle.plan.specs.List.{readList}
+use Rattle.plan.specs.Sheet.{sheetWith, sheetOf}
+use Rattle.plan.specs.Calls.{readNumber}
 use Rattle.plan.specs.ReadOff.{numberOn, spotsOn, carried}
-use Rattle.plan.specs.Output.{outputOf}
+use Rattle.plan.specs.Output.{numberLine, outputOf}
+
+-- A list that is accepted, and has these sites.
+pub record Accepts (text : List ℕ) (sites : List Site) : Type 0 where
+  pub read : readList text ≡ accepted sites
+  pub some-sites : 1 ≤ length sites
+
+-- Demand 1: "for each input, refused ones too, precisely which value comes back". Every text has its answer, and "no refusal is
+-- given outside its condition":
+pub record Answered (text output : List ℕ) : Type 0 where
+  -- a list with a refused line gives the number of the first such line,
+  pub line-refused : (readNumber text ≡ 0 → ⊥) → output ≡ numberLine (readNumber text)
+  -- a list of no sites gives 8,
+  pub none-refused : readList text ≡ accepted [] → output ≡ numberLine 8
+  -- and every other list gives the sheet of its sites.
+  pub accepts : (sites : List Site) → Accepts text sites → output ≡ sheetOf sites
+
+-- Demand 2: the sheet for an accepted list.
+pub record Right (text : List ℕ) (sites : List Site) (sheet : List ℕ) : Type 0 where
+  -- It prints the answer: "free, with the first good choice at 20,001. Otherwise it is the greatest h that has a good choice, with
+  -- the first good choice there."
+  pub answer : Answer
+  pub is-answer : IsAnswer (placesOf sites) answer
+  pub prints : sheet ≡ sheetWith sites answer
+  -- "Leaving out the first line and, of each other line, the last field with the tab before it gives the list back",
+  pub carries : carried sheet ≡ text
+  -- which gives the same sheet again.
+  pub again : outputOf (carried sheet) ≡ sheet
 
 -- Demand 3: "A rival is any list of corners, one for each of these lines, with any side p/q above twice the number, that is
 -- p > 2 × number × q. For every rival, the labels of some two of these lines meet."
@@ -21,17 +56,35 @@ pub record NoRival (sheet : List ℕ) : Type 0 where
   pub rivals-meet : (number p q : ℕ) → numberOn sheet ≡ some number → 1 ≤ q → 2 * number * q < p
       → (corners : List ℕ) → Corners (length (spotsOn sheet)) corners → MeetingPair p q (spotsOn sheet) corners
 
--- The same of what writing leaves in a buffer, "from its first byte up to the length it gives".
-abbrev pub NoRivalIn : Written → List ℕ → Type 0
-NoRivalIn (Bytes n) buffer = NoRival (take n buffer)
-NoRivalIn (NotWritten why) buffer = Unit {0}
+-- It is about the sites: "Its number is the side it prints, its spots are the x and y on the site lines under it". On a sheet for
+-- these places the number is the side of their answer, exactly when that is a number, and the spots are the places.
+pub record ReadsOff (places : List Place) (sheet : List ℕ) : Type 0 where
+  pub number : (side : HalfUnits) → answerOf places .side ≡ Number side → numberOn sheet ≡ some (side .0)
+  pub no-number : answerOf places .side ≡ Free → numberOn sheet ≡ none
+  pub spots : spotsOn sheet ≡ places
 
--- Demands 2 and 3 from a list to the bytes written for it: where it has sites and is accepted, the list that the sheet carries
--- is the list, byte for byte, reading it again gives the same sheet, and no rival does better.
-pub record SheetFor (text : List ℕ) (written : Written) (buffer : List ℕ) : Type 0 where
-  pub carries : (sites : List Site) (n : ℕ) → readList text ≡ accepted sites → 1 ≤ length sites → written ≡ Bytes n
-      → carried (take n buffer) ≡ text
-  pub again : (sites : List Site) (n : ℕ) → readList text ≡ accepted sites → 1 ≤ length sites → written ≡ Bytes n
-      → outputOf (carried (take n buffer)) ≡ take n buffer
-  pub rivals : (sites : List Site) (n : ℕ) → readList text ≡ accepted sites → 1 ≤ length sites → written ≡ Bytes n
-      → NoRival (take n buffer)
+-- The three of the output for a text.
+pub record Demanded (text output : List ℕ) : Type 0 where
+  pub answered : Answered text output
+  pub right : (sites : List Site) → Accepts text sites → Right text sites output
+  pub no-rival : (sites : List Site) → Accepts text sites → NoRival output
+  pub reads-off : (sites : List Site) → Accepts text sites → ReadsOff (placesOf sites) output
+
+-- ---- of "what an accepted writing leaves in the buffer, from its first byte up to the length it gives"
+
+-- Something that holds of the bytes written, where some are.
+abbrev pub InBuffer : (List ℕ → Type 0) → Written → List ℕ → Type 0
+InBuffer holds (Bytes n) buffer = holds (take n buffer)
+InBuffer holds (NotWritten why) buffer = Unit {0}
+
+-- Demand 3 of a written sheet,
+abbrev pub NoRivalIn : Written → List ℕ → Type 0
+NoRivalIn written buffer = InBuffer NoRival written buffer
+
+-- with what its number and spots are,
+abbrev pub ReadsOffIn : List Place → Written → List ℕ → Type 0
+ReadsOffIn places written buffer = InBuffer (ReadsOff places) written buffer
+
+-- and all three of the output written for a text.
+abbrev pub SheetFor : List ℕ → Written → List ℕ → Type 0
+SheetFor text written buffer = InBuffer (Demanded text) written buffer

@@ -9,13 +9,13 @@ use borrow.Author.Tests.{leb-true, leb-false, lt-leb, not-false}
 use lib.Dec.{leb}
 use lib.ListN.{length, getD, length-append, length-map, List·getD-append}
 use lib.Seq.{getD-append-seam}
-use Rattle.placing.specs.Units.{greatestCoordinate, nowhere, xOf, yOf, siteAt, Same}
+use Rattle.placing.specs.Units.{mostSites, greatestCoordinate, nowhere, xOf, yOf, siteAt, Same}
 use Rattle.plan.specs.declared.refusal.Refusal.{Refusal}
 use Rattle.plan.specs.declared.refusal.Refusal.the-variants.{Name, Coordinate, NameTaken, PlaceTaken, Full}
-use Rattle.plan.specs.Name.{isName}
+use Rattle.plan.specs.Name.{isName, and-both}
 use Rattle.plan.specs.OneMore.{each-more, each-two-more}
 use Rattle.plan.specs.Site.{Site, placeOf, placesOf, placeAt, nameTaken, placeTaken, noSite, Listed}
-use Rattle.plan.specs.Site.{place-at, name-fresh, fresh-name, place-fresh, fresh-place, and-both}
+use Rattle.plan.specs.Site.{place-at, name-fresh, fresh-name, place-fresh, fresh-place}
 
 -- The sites afterwards, or why they stay as they are.
 pub data Sites : Type 0 where
@@ -30,7 +30,7 @@ refusedIf false why otherwise = otherwise
 -- One site more, by the tests 7, 4, 5.
 unfoldable pub appended : List Site → Site → Sites
 appended sites site =
-    refusedIf (leb 240 (length sites)) Full
+    refusedIf (leb mostSites (length sites)) Full
     (refusedIf (nameTaken sites (site .name)) NameTaken
     (refusedIf (placeTaken sites (site .place)) PlaceTaken
     (accepted (sites ++ (site ∷ [])))))
@@ -54,7 +54,7 @@ accepted-if false why otherwise more e = (refl, e)
 
 -- What the tests 7, 4, 5 tell of a site that is accepted.
 pub record Fresh (sites : List Site) (site : Site) : Type 0 where
-  pub room : length sites < 240
+  pub room : length sites < mostSites
   pub name-free : nameTaken sites (site .name) ≡ false
   pub place-free : placeTaken sites (site .place) ≡ false
 
@@ -62,15 +62,15 @@ pub record Fresh (sites : List Site) (site : Site) : Type 0 where
 pub appended-fresh : (sites : List Site) (site : Site) (more : List Site) → appended sites site ≡ accepted more → Fresh sites site
 unfolding appended
 appended-fresh sites site more e =
-    let full = accepted-if (leb 240 (length sites)) Full _ more e in
+    let full = accepted-if (leb mostSites (length sites)) Full _ more e in
     let named = accepted-if (nameTaken sites (site .name)) NameTaken _ more (full .1) in
     let placed = accepted-if (placeTaken sites (site .place)) PlaceTaken _ more (named .1) in
-    record { room = leb-false 240 (length sites) (full .0); name-free = named .0; place-free = placed .0 }
+    record { room = leb-false mostSites (length sites) (full .0); name-free = named .0; place-free = placed .0 }
 
 -- .. and a fresh site is accepted: it stands last.
 pub fresh-appended : (sites : List Site) (site : Site) → Fresh sites site → appended sites site ≡ accepted (sites ++ (site ∷ []))
 unfolding appended
-fresh-appended sites site fresh = rw (lt-leb 240 (length sites) (fresh .room), fresh .name-free, fresh .place-free)
+fresh-appended sites site fresh = rw (lt-leb mostSites (length sites) (fresh .room), fresh .name-free, fresh .place-free)
 
 -- The sites afterwards: those before and the new one.
 pub appended-more : (sites : List Site) (site : Site) (more : List Site) → appended sites site ≡ accepted more → more ≡ sites ++ (site ∷ [])

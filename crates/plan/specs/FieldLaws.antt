@@ -4,38 +4,28 @@ use mathlib.Core.Path.{_≡_, refl, sym, ap, ap₂, _∙_}
 use mathlib.Core.Bool.{Bool, true, false, not}
 use mathlib.Core.List.{List, [], _∷_}
 use mathlib.Core.Option.{Option, some, none}
-use Prim.Native.Nat.{ℕ, _≤_}
-use native.Mathlib.Omega.{arith}
-use lib.Dec.{leb}
-use borrow.Author.Tests.{leb-true}
+use Prim.Native.Nat.{ℕ}
 use Rattle.placing.specs.declared.units.Units.{Units}
-use Rattle.placing.specs.Units.{greatestCoordinate, OnAxis}
+use Rattle.placing.specs.Units.{OnAxis}
 use Rattle.plan.specs.declared.name.Name.{Name}
 use Rattle.plan.specs.declared.name.NameRead.{NameRead}
 use Rattle.plan.specs.declared.number.Coordinate.the-variants.{At, Nowhere}
-use Rattle.plan.specs.declared.refusal.Outcome.the-variants.{Refused}
-use Rattle.plan.specs.declared.refusal.Refusal.{Refusal}
 use Rattle.plan.specs.declared.refusal.Refusal.the-variants as why
 use Rattle.plan.specs.declared.plan.Plan.{Plan}
 use Rattle.plan.specs.declared.plan.Planned.{Planned}
-use Rattle.plan.specs.Number.{numberIn, inRange, coordinateIn}
-use Rattle.plan.specs.Name.{isName, nameOf, bytesOf, name-held, name-short}
-use Rattle.plan.specs.NameRead.{nameRead, nameWhere}
+use Rattle.plan.specs.Number.{coordinateIn}
+use Rattle.plan.specs.Name.{isName, nameOf, bytesOf}
+use Rattle.plan.specs.NameRead.{nameRead}
 use Rattle.plan.specs.Coordinate.{coordinateRead}
 use Rattle.plan.specs.Site.{Site}
 use Rattle.plan.specs.Taken.{siteOf}
 use Rattle.plan.specs.Enter.{Sites, refused, refusedIf, appended}
-use Rattle.plan.specs.List.{withCoordinates, enteredFields}
+use Rattle.plan.specs.List.{withCoordinates, enteredFields, coordinate-is}
 use Rattle.plan.specs.Plan.{Valid}
 use Rattle.plan.specs.Calls.{plannedOr}
+use Rattle.plan.specs.CallLaws.{read-ok, read-name, read-bytes}
 
--- A refusal that hands back the plan as it came answers as it should.
-pub refusal-answers : {result : Planned} {plan : Plan} {sites : Sites} {reason : Refusal} → Valid plan
-    → result ≡ record { outcome = Refused reason; plan = plan } → sites ≡ refused reason
-    → (result ≡ plannedOr plan sites) × Valid (result .plan)
-refusal-answers {plan = plan} valid is refusal = (is ∙ ap (plannedOr plan) (sym refusal), rw is valid)
-
--- So does the answer of a call for sites that are the same.
+-- The answer of a call is one for sites that are the same.
 pub call-answers : {result : Planned} {there here : Sites} (plan : Plan) → (result ≡ plannedOr plan there) × Valid (result .plan)
     → here ≡ there → (result ≡ plannedOr plan here) × Valid (result .plan)
 call-answers plan answer same = (answer .0 ∙ ap (plannedOr plan) (sym same), answer .1)
@@ -50,20 +40,8 @@ coordinate-none none e = refl
 coordinate-none (some n) e = cc
 
 -- It is on the plan.
-in-range : (read : Option ℕ) (n : ℕ) → inRange read ≡ some n → n ≤ greatestCoordinate
-in-range none n e = absurd (let z : _≡_ {A = ℕ} 0 1 = cc in omega arith)
-in-range (some m) n e = by-test (leb m greatestCoordinate) refl e
-  where
-    by-test : (fits : Bool) → leb m greatestCoordinate ≡ fits → elim fits [ true ↦ some m | false ↦ none ] ≡ some n → n ≤ greatestCoordinate
-    by-test true fits e = let same : m ≡ n = cc in omega (arith, leb-true m greatestCoordinate fits)
-    by-test false fits e = absurd (let z : _≡_ {A = ℕ} 0 1 = cc in omega arith)
-
 pub coordinate-on : (text : List ℕ) (a : Units) → coordinateRead (coordinateIn text) ≡ At a → OnAxis a
-coordinate-on text a e = record { range = in-range (numberIn text) (a .0) (coordinate-at (coordinateIn text) a e) }
-
--- Reading a name says whether it is one.
-pub name-tested : (bytes : List ℕ) (read : NameRead) → read ≡ nameRead bytes → isName bytes ≡ read .ok
-name-tested bytes read is = sym (ap (λ (r : NameRead). r .ok) is)
+coordinate-on text a e = record { range = coordinate-is text (a .0) (coordinate-at (coordinateIn text) a e) .1 }
 
 -- What a name that is read is: the record of the bytes, which are a name.
 pub record NamedAs (bytes : List ℕ) (name : Name) : Type 0 where
@@ -71,11 +49,11 @@ pub record NamedAs (bytes : List ℕ) (name : Name) : Type 0 where
   pub record-is : name ≡ nameOf bytes
   pub bytes-are : bytesOf name ≡ bytes
 
+-- A name that is read is so.
 pub name-read : (bytes : List ℕ) (read : NameRead) → read ≡ nameRead bytes → read .ok ≡ true → NamedAs bytes (read .name)
 name-read bytes read is ok =
-    let named : isName bytes ≡ true = name-tested bytes read is ∙ ok in
-    let record-is : read .name ≡ nameOf bytes = ap (λ (r : NameRead). r .name) is ∙ ap (λ (b : Bool). nameWhere b bytes) named in
-    record { named = named; record-is = record-is; bytes-are = ap bytesOf record-is ∙ name-held bytes (name-short bytes named) }
+    let named : isName bytes ≡ true = read-ok bytes is ∙ ok in
+    record { named = named; record-is = read-name bytes is named; bytes-are = read-bytes bytes is named }
 
 -- ---- what becomes of three fields
 

@@ -3,13 +3,13 @@
 use mathlib.Core.Path.{_≡_, refl, sym, ap, _∙_, subst}
 use mathlib.Core.Bool.{Bool, true, false}
 use mathlib.Core.List.{List, [], _∷_}
-use Prim.Native.Nat.{ℕ, _*_, _≤_, _<_}
+use Prim.Native.Nat.{ℕ, _≤_, _<_}
 use native.Mathlib.Nat.{mul-le-mul-right}
 use native.Mathlib.Omega.{arith}
 use lib.Dec.{ltb}
 use lib.ListN.{length, take, drop}
 use lib.Seq.{take-at}
-use borrow.Author.Tests.{lt-ltb, le-ltb, ne-eqb}
+use borrow.Author.Tests.{lt-ltb, le-ltb}
 use Rattle.plan.specs.declared.plan.Plan.{Plan}
 use Rattle.plan.specs.declared.plan.Planned.{Planned}
 use Rattle.plan.specs.declared.plan.Written.{Written}
@@ -18,15 +18,19 @@ use Rattle.plan.specs.declared.refusal.Outcome.{Outcome}
 use Rattle.plan.specs.declared.refusal.Outcome.the-variants.{Done, Refused}
 use Rattle.plan.specs.declared.refusal.Refusal.{Refusal}
 use Rattle.plan.specs.declared.refusal.Refusal.the-variants.{NoSites, ShortBuffer}
-use Rattle.plan.specs.Site.{Site, Listed}
+use Rattle.plan.specs.Site.{Site, placesOf, Listed}
 use Rattle.plan.specs.Enter.{Sites, accepted, refused}
 use Rattle.plan.specs.List.{readList, read-listed}
 use Rattle.plan.specs.Sheet.{sheetOf}
 use Rattle.plan.specs.Plan.{unplaced, placed, sitesIn, sites-unplaced, sites-placed, Valid, is-placed, is-unplaced}
+use Rattle.plan.specs.Calls.{writtenNumber, writtenLength, numberIf, carriedAt}
 use Rattle.plan.specs.Calls.{plannedOr, started, readFrom, placedIn, written, writeWhere, filledWhere, bufferAfter}
 use Rattle.plan.specs.Output.{refusalLine, outputFor, outputOf, outputWhere, refusalWritten, refusalAfter, output-sheet}
-use Rattle.plan.specs.Demands.{NoRival, SheetFor}
-use Rattle.plan.specs.SheetLaws.{no-rival, text-again, output-again}
+use Rattle.plan.specs.Output.{outputWritten, outputNumber, outputAfter}
+use Rattle.plan.specs.Demands.{NoRival, ReadsOff, Demanded, SheetFor}
+use Rattle.plan.specs.SheetLaws.{no-rival}
+use Rattle.plan.specs.OutputLaws.{sheet-reads, output-demanded}
+use Rattle.plan.specs.CallLaws.{unplaced-placed}
 use Rattle.plan.specs.Put.{Put}
 use Rattle.plan.specs.PutLaws.{put-same, put-front, put-taken}
 
@@ -93,23 +97,48 @@ filled-written {buffer} plan is filled =
     let fills = sym (write-fills plan buffer is) in
     (filled .answer-is ∙ fills, filled .after-is ∙ ap (λ (w : Written). filledWhere w (sheetOf (sitesIn plan)) buffer) fills)
 
--- Demand 3 holds of the sheet that fills a buffer.
+-- Demand 3 holds of the sheet that fills a buffer,
 pub filled-no-rival : {plan : Plan} {buffer after : List ℕ} {n : ℕ} → Valid plan
     → Filled (sheetOf (sitesIn plan)) buffer (Bytes n) after → NoRival (take n after)
 filled-no-rival {plan} valid filled =
     subst NoRival (sym (filled-taken filled refl)) (no-rival (sitesIn plan) (valid-listed valid))
 
+-- and is about the places of the plan.
+pub filled-reads : {plan : Plan} {buffer after : List ℕ} {n : ℕ} → Valid plan
+    → Filled (sheetOf (sitesIn plan)) buffer (Bytes n) after → ReadsOff (placesOf (sitesIn plan)) (take n after)
+filled-reads {plan} valid filled =
+    subst (ReadsOff (placesOf (sitesIn plan))) (sym (filled-taken filled refl)) (sheet-reads (sitesIn plan) (valid-listed valid))
+
 -- ---- the output
 
--- Demands 2 and 3 hold where the output fills a buffer.
-pub filled-demands : {text buffer after : List ℕ} {answer : Written} → Filled (outputOf text) buffer answer after → SheetFor text answer after
-filled-demands {text} filled =
-    record {
-      carries = λ sites n read nonempty is. rw (filled-taken filled is) (text-again text sites read nonempty);
-      again = λ sites n read nonempty is. rw (filled-taken filled is) (output-again text sites read nonempty);
-      rivals = λ sites n read nonempty is.
-          rw (filled-taken filled is, output-sheet text sites read nonempty) (no-rival sites (read-listed text sites read));
-    }
+-- The demands hold where the output fills a buffer.
+filled-demands : (text : List ℕ) {buffer after : List ℕ} (answer : Written) → Filled (outputOf text) buffer answer after
+    → SheetFor text answer after
+filled-demands text (Bytes n) filled = subst (Demanded text) (sym (filled-taken filled refl)) (output-demanded text)
+filled-demands text (NotWritten why) filled = tt
+
+-- The number of the answer, and the length that it carries.
+filled-told : {text buffer after : List ℕ} {answer : Written} → Filled text buffer answer after
+    → (writtenNumber answer ≡ numberIf (ltb (length buffer) (length text)) 10 0)
+    × (writtenLength answer ≡ carriedAt (numberIf (ltb (length buffer) (length text)) 10 0) (length text))
+filled-told {text} {buffer} filled =
+    let told = by-room (ltb (length buffer) (length text)) in
+    (ap writtenNumber (filled .answer-is) ∙ told .0, ap writtenLength (filled .answer-is) ∙ told .1)
+  where
+    by-room : (short : Bool) → (writtenNumber (outputWhere short text) ≡ numberIf short 10 0)
+        × (writtenLength (outputWhere short text) ≡ carriedAt (numberIf short 10 0) (length text))
+    by-room true = (refl, refl)
+    by-room false = (refl, refl)
+
+-- So all that is promised of the output holds where it fills a buffer.
+pub filled-output : (text : List ℕ) {buffer after : List ℕ} {answer : Written} → Filled (outputOf text) buffer answer after
+    → (answer ≡ outputWritten text buffer)
+    × ((after ≡ outputAfter text buffer)
+    × (SheetFor text answer after
+    × ((writtenNumber answer ≡ outputNumber text buffer)
+    × (writtenLength answer ≡ carriedAt (outputNumber text buffer) (length (outputOf text))))))
+filled-output text {buffer} {after} {answer} filled =
+    (filled .answer-is, (filled .after-is, (filled-demands text answer filled, filled-told filled)))
 
 -- The answer of a call that hands back a plan.
 abbrev outcomeOf : Planned → Outcome
@@ -128,11 +157,8 @@ read-refused text why listed-is is = by-sites (readList text) (ap outcomeOf (sym
 -- A table of 57,600 bytes is enough for the sites of every plan: one that has sites is placed.
 placed-in : (sites : List Site) (table : List ℕ) → Listed sites → 1 ≤ length sites → length table ≡ 57600
     → placedIn (unplaced sites) table ≡ record { outcome = Done; plan = placed sites }
-unfolding unplaced
 placed-in sites table listed nonempty size =
-    let square : length sites * length sites ≤ length table = omega (arith, mul-le-mul-right (length sites) (listed .few)) in
-    rw (ne-eqb (length sites) 0 (omega arith), le-ltb (length table) (length sites * length sites) square)
-    (ap (λ (l : List Site). record { outcome = Done; plan = placed l }) (sites-unplaced sites listed))
+    unplaced-placed sites table listed nonempty (omega (arith, mul-le-mul-right (length sites) (listed .few)))
 
 -- So where placing is refused the list has no sites, and the output says so.
 pub place-refused : (text table : List ℕ) (why : Refusal) {listed done : Planned} → length table ≡ 57600

@@ -1,24 +1,35 @@
--- Document 01, "Known answers": the cases marked P, as rows of one table with a theorem over the rows. Each row is tested by
--- entering its sites and by the pruned search, which the checker computes, so that a row more needs no proof.
+-- Document 01, "Known answers": the cases marked P, as rows of one table with a theorem over the rows: what the calls of starting,
+-- entering and placing lead to. Each row is tested by entering its sites and by the pruned search, which the checker computes, so
+-- that a row more needs no proof.
 -- Assumes nothing.
-use mathlib.Core.Path.{_≡_, sym, ap, _∙_, subst}
+use mathlib.Core.Path.{_≡_, refl, sym, ap, _∙_, subst}
 use mathlib.Core.Bool.{Bool, true, false, _&&_}
 use mathlib.Core.List.{List, [], _∷_, map, List·Memᴰ, List·Memᴰ·cases-cons, List·Memᴰ·not-nil}
 use mathlib.Core.Logic.{⊎-elim}
 use Prim.Native.Nat.{ℕ, suc, _*_, _≤_}
+use native.Mathlib.Nat.{le-trans, mul-le-mul}
 use native.Mathlib.Omega.{arith}
+use borrow.Author.Tests.{le-ltb, ne-eqb}
 use lib.Dec.{T, eqb, lit≤}
+use lib.ListN.{length}
 use Rattle.placing.specs.declared.units.Place.{Place}
+use Rattle.placing.specs.Units.{mostSites}
 use Rattle.placing.specs.Decide.{eq-decides, both-decide, not-decides}
-use Rattle.placing.specs.Answer.{Answer, numbered, unbounded}
+use Rattle.placing.specs.Answer.{Answer, answerOf, numbered, unbounded}
 use Rattle.placing.specs.Twice.{MeetingPair, meeting-decides, meeting-larger}
-use Rattle.placing.specs.Checked.{checkedTest, checked-distinct, checked-right, passed, both-passed}
+use Rattle.placing.specs.Checked.{checkedTest, checked-right, passed, both-passed}
+use Rattle.plan.specs.declared.refusal.Outcome.the-variants.{Done, Refused}
+use Rattle.plan.specs.declared.refusal.Outcome.{Outcome}
 use Rattle.plan.specs.declared.refusal.Refusal.{Refusal}
+use Rattle.plan.specs.declared.refusal.Refusal.the-variants.{NoSites}
+use Rattle.plan.specs.declared.plan.Plan.{Plan}
+use Rattle.plan.specs.declared.plan.Planned.{Planned}
 use Rattle.plan.specs.Refusal.{numberOf}
 use Rattle.plan.specs.Name.{isName, nameBytes, sameBytes}
-use Rattle.plan.specs.Site.{Site, placeAt, placesOf, nameTaken, placeTaken}
-use Rattle.plan.specs.Enter.{Sites, accepted, refused, appended, entered}
-use Rattle.plan.specs.Plan.{placed, answerIn, placed-answer}
+use Rattle.plan.specs.Site.{Site, placeAt, placesOf, nameTaken, placeTaken, Listed}
+use Rattle.plan.specs.Enter.{Sites, accepted, refused, appended, entered, entered-listed, listed-none}
+use Rattle.plan.specs.Plan.{unplaced, placed, answerIn, placed-answer, sites-unplaced}
+use Rattle.plan.specs.Calls.{started, plannedOr, enteredIn, placedIn}
 
 -- A name and two numbers to enter.
 pub record Entry : Type 0 where
@@ -26,7 +37,8 @@ pub record Entry : Type 0 where
   pub x : ℕ
   pub y : ℕ
 
--- What entries lead to: all are accepted and placing has this answer, or entry number i, from 0, is refused with this number.
+-- What entries, and placing after them, lead to: this answer, or step number i, from 0, is refused with this number. The step
+-- after the last entry is placing.
 pub data End : Type 0 where
   answered : Answer → End
   refusedAt : (i number : ℕ) → End
@@ -49,7 +61,7 @@ column = at 65 10 10 ∷ at 66 10 14 ∷ at 67 10 20 ∷ []
 abbrev pub columnCorners : List ℕ
 columnCorners = 3 ∷ 1 ∷ 1 ∷ []
 
--- Document 01's cases, in its order.
+-- Document 01's cases, in its order, and placing a plan of no sites.
 abbrev pub rows : List Row
 rows =
     record { entries = at 65 5 5 ∷ []; end = answered (unbounded (1 ∷ [])) }
@@ -71,12 +83,34 @@ rows =
     ∷ record { entries = at 65 0 10001 ∷ []; end = refusedAt 0 3 }
     ∷ record { entries = at 65 5 5 ∷ at 66 5 5 ∷ []; end = refusedAt 1 5 }
     ∷ record { entries = at 65 5 5 ∷ at 65 5 5 ∷ []; end = refusedAt 1 4 }
+    ∷ record { entries = []; end = refusedAt 0 8 }
     ∷ []
 
 -- ---- what entries lead to
 
--- Entered one after another: the sites of all, or the first that is refused.
-pub data Run : Type 0 where
+-- What follows a step: nothing where it is refused.
+abbrev pub afterStep : (Plan → End) → ℕ → Outcome → Plan → End
+afterStep next i Done plan = next plan
+afterStep next i (Refused why) plan = refusedAt i (numberOf why)
+
+-- The same of what a call hands back.
+abbrev pub onward : (Plan → End) → ℕ → Planned → End
+onward next i planned = afterStep next i (planned .outcome) (planned .plan)
+
+-- Entries from number i on, into this plan, then placing with this work table.
+abbrev pub leadsFrom : List ℕ → ℕ → Plan → List Entry → End
+leadsFrom table i plan [] = onward (λ end. answered (answerIn end)) i (placedIn plan table)
+leadsFrom table i plan (entry ∷ entries) =
+    onward (λ more. leadsFrom table (suc i) more entries) i (enteredIn plan (entry .name) (entry .x) (entry .y))
+
+-- Into a started plan.
+abbrev pub leadsTo : List ℕ → List Entry → End
+leadsTo table entries = leadsFrom table 0 started entries
+
+-- ---- the same by sites, as it is computed
+
+-- Entered one after another: the sites of all, or the first step that is refused.
+data Run : Type 0 where
   through : List Site → Run
   stopped : (i : ℕ) → Refusal → Run
 
@@ -85,20 +119,45 @@ abbrev runOn : (List Site → Run) → ℕ → Sites → Run
 runOn next i (accepted sites) = next sites
 runOn next i (refused why) = stopped i why
 
--- Entries from number i on, after these sites.
-abbrev pub runFrom : ℕ → List Site → List Entry → Run
-runFrom i sites [] = through sites
-runFrom i sites (entry ∷ entries) =
-    runOn (λ more. runFrom (suc i) more entries) i (entered sites (entry .name) (entry .x) (entry .y))
+-- Entries from number i on, after these sites; placing no sites is refused.
+abbrev runFrom : ℕ → List Site → List Entry → Run
+runFrom i [] [] = stopped i NoSites
+runFrom i (site ∷ sites) [] = through (site ∷ sites)
+runFrom i sites (entry ∷ entries) = runOn (λ more. runFrom (suc i) more entries) i (entered sites (entry .name) (entry .x) (entry .y))
 
--- All sites are placed; a refusal is its number.
-abbrev pub endOf : Run → End
-endOf (through sites) = answered (answerIn (placed sites))
+-- All sites have the answer for their places; a refusal is its number.
+abbrev endOf : Run → End
+endOf (through sites) = answered (answerOf (placesOf sites))
 endOf (stopped i why) = refusedAt i (numberOf why)
 
--- Into an empty list.
-abbrev pub leadsTo : List Entry → End
-leadsTo entries = endOf (runFrom 0 [] entries)
+module _ (table : List ℕ) (enough : mostSites * mostSites ≤ length table) where
+  -- Placing sites that are listed.
+  placing-run : (i : ℕ) (sites : List Site) → Listed sites → leadsFrom table i (unplaced sites) [] ≡ endOf (runFrom i sites [])
+  unfolding unplaced
+  placing-run i [] listed = refl
+  placing-run i (site ∷ sites) listed =
+      rw (
+        ne-eqb (length (site ∷ sites)) 0 (omega arith),
+        le-ltb (length table) (length (site ∷ sites) * length (site ∷ sites)) (le-trans (mul-le-mul (listed .few) (listed .few)) enough),
+      )
+      (ap answered
+      (ap (λ (held : List Site). answerIn (placed held)) (sites-unplaced (site ∷ sites) listed)
+      ∙ placed-answer (site ∷ sites) (listed .places-distinct)))
+
+  -- The calls on plans lead where the sites by themselves do.
+  leads-run : (i : ℕ) (sites : List Site) → Listed sites → (entries : List Entry)
+      → leadsFrom table i (unplaced sites) entries ≡ endOf (runFrom i sites entries)
+  leads-run i sites listed [] = placing-run i sites listed
+  leads-run i sites listed (entry ∷ entries) =
+      rw (sites-unplaced sites listed)
+      (step (λ more each. leads-run (suc i) more each entries) (entered sites (entry .name) (entry .x) (entry .y)) refl)
+    where
+      step : ((more : List Site) → Listed more → leadsFrom table (suc i) (unplaced more) entries ≡ endOf (runFrom (suc i) more entries))
+          → (after : Sites) → entered sites (entry .name) (entry .x) (entry .y) ≡ after
+          → onward (λ more. leadsFrom table (suc i) more entries) i (plannedOr (unplaced sites) after)
+          ≡ endOf (runOn (λ more. runFrom (suc i) more entries) i after)
+      step further (accepted more) e = further more (entered-listed sites (entry .name) (entry .x) (entry .y) more listed e)
+      step further (refused why) e = refl
 
 -- ---- the test of a row
 
@@ -119,7 +178,7 @@ rowsTest (row ∷ rows) = rowTest row && rowsTest rows
 -- An end that passes its test is right.
 end-right : (run : Run) (end : End) → T (endTest run end) → endOf run ≡ end
 end-right (through sites) (answered answer) test =
-    ap answered (placed-answer sites (checked-distinct (placesOf sites) answer test) ∙ checked-right (placesOf sites) answer test)
+    ap answered (checked-right (placesOf sites) answer test)
 end-right (through sites) (refusedAt i number) test = absurd test
 end-right (stopped j why) (answered answer) test = absurd test
 end-right (stopped j why) (refusedAt i number) test =
@@ -127,17 +186,17 @@ end-right (stopped j why) (refusedAt i number) test =
     λ k. refusedAt (same .0 k) (same .1 k)
 
 -- So is that of every row of a list that passes.
-rows-right : (rows : List Row) → T (rowsTest rows) → (row : Row) → List·Memᴰ row rows → leadsTo (row .entries) ≡ row .end
+rows-right : (rows : List Row) → T (rowsTest rows) → (row : Row) → List·Memᴰ row rows → endOf (runFrom 0 [] (row .entries)) ≡ row .end
 rows-right [] test row member = absurd (List·Memᴰ·not-nil member)
 rows-right (first ∷ rows) test row member =
     let parts = both-passed (rowTest first) (rowsTest rows) test in
     ⊎-elim (λ same. end-right (runFrom 0 [] (row .entries)) (row .end) (subst (λ (r : Row). T (rowTest r)) (sym same) (parts .0)))
     (rows-right rows (parts .1) row) (List·Memᴰ·cases-cons member)
 
--- The entries of every row lead to its end.
-pub known : (row : Row) → List·Memᴰ row rows → leadsTo (row .entries) ≡ row .end
+-- The entries of every row lead to its end, with a work table for 240 sites.
+pub known : (row : Row) → List·Memᴰ row rows → (table : List ℕ) → mostSites * mostSites ≤ length table → leadsTo table (row .entries) ≡ row .end
 unfolding entered appended isName nameBytes sameBytes nameTaken placeTaken
-known = rows-right rows tt
+known row member table enough = leads-run table enough 0 [] listed-none (row .entries) ∙ rows-right rows tt row member
 
 -- The places of entries.
 abbrev pub spots : List Entry → List Place

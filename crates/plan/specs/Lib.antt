@@ -11,6 +11,7 @@ pub mod Longer
 pub mod Sheet
 pub mod Plan
 pub mod Calls
+pub mod Numbers
 pub mod ReadOff
 pub mod Output
 pub mod Demands
@@ -28,9 +29,12 @@ pub mod PutLaws
 pub mod TakenLaws
 pub mod PlanLaws
 pub mod CallLaws
+pub mod HandedBack
+pub mod Conditions
 pub mod LineLaws
 pub mod FieldLaws
 pub mod Reading
 pub mod Composing
 pub mod Refusing
+pub mod OutputLaws
 pub mod Filling

@@ -15,7 +15,7 @@ use Rattle.placing.specs.Units.{greatestCoordinate, xOf, yOf}
 use Rattle.plan.specs.declared.refusal.Refusal.the-variants.{Line, Name, Coordinate}
 use Rattle.plan.specs.Text.{tab, lineFeed, Cut, firstLine, fieldsOf}
 use Rattle.plan.specs.Text.{Without, CutOf, cut-found, cut-is, without-append, joined, fields-one, fields-more, fields-joined}
-use Rattle.plan.specs.Number.{numberIn, inRange, coordinateIn, decimal, number-decimal, decimal-number, decimal-without, decimal-short}
+use Rattle.plan.specs.Number.{numberIn, asCoordinate, coordinateIn, decimal, number-decimal, decimal-number, decimal-without, decimal-short}
 use Rattle.plan.specs.Name.{isName, name-without, name-short}
 use Rattle.plan.specs.Site.{Site, placeAt, Listed, ByRules, listed-site}
 use Rattle.plan.specs.Enter.{Sites, accepted, refused, refusedIf, appended}
@@ -74,27 +74,27 @@ listText (site ∷ sites) = listLine site ++ (lineFeed ∷ listText sites)
 -- ---- laws: one line
 
 -- A coordinate is the number that its text writes, in range.
-coordinate-is : (text : List ℕ) (n : ℕ) → coordinateIn text ≡ some n → (text ≡ decimal n) × (n ≤ greatestCoordinate)
+pub coordinate-is : (text : List ℕ) (n : ℕ) → coordinateIn text ≡ some n → (text ≡ decimal n) × (n ≤ greatestCoordinate)
 coordinate-is text n e =
     let both = go (numberIn text) e in (decimal-number text n (both .0) (omega (arith, both .1)), both .1)
   where
-    ranged : (m : ℕ) → Dec (m ≤ greatestCoordinate) → inRange (some m) ≡ some n → (some m ≡ some n) × (n ≤ greatestCoordinate)
+    ranged : (m : ℕ) → Dec (m ≤ greatestCoordinate) → asCoordinate (some m) ≡ some n → (some m ≡ some n) × (n ≤ greatestCoordinate)
     ranged m (yes fits) e =
-        let same : some m ≡ some n = rw (le-leb m greatestCoordinate fits, inRange) at e in
+        let same : some m ≡ some n = rw (le-leb m greatestCoordinate fits, asCoordinate) at e in
         let equal : m ≡ n = cc in
         (same, omega arith)
     ranged m (no past) e =
-        let never : none ≡ some n = rw (lt-leb m greatestCoordinate (omega arith), inRange) at e in
+        let never : none ≡ some n = rw (lt-leb m greatestCoordinate (omega arith), asCoordinate) at e in
         let z : _≡_ {A = ℕ} 0 1 = cc in
         absurd (omega arith)
 
-    go : (number : Option ℕ) → inRange number ≡ some n → (number ≡ some n) × (n ≤ greatestCoordinate)
+    go : (number : Option ℕ) → asCoordinate number ≡ some n → (number ≡ some n) × (n ≤ greatestCoordinate)
     go none e = let z : _≡_ {A = ℕ} 0 1 = cc in absurd (omega arith)
     go (some m) e = ranged m (decLe m greatestCoordinate) e
 
 -- A number in range is read as the coordinate that it is.
 coordinate-decimal : (n : ℕ) → n ≤ greatestCoordinate → coordinateIn (decimal n) ≡ some n
-coordinate-decimal n fits = rw (number-decimal n (omega arith), le-leb n greatestCoordinate fits, inRange)
+coordinate-decimal n fits = rw (number-decimal n (omega arith), le-leb n greatestCoordinate fits, asCoordinate)
 
 -- A line that is entered: the line of one site by the rules, which is added.
 pub record LineOf (sites : List Site) (line : List ℕ) (more : List Site) : Type 0 where

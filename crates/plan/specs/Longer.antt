@@ -15,6 +15,7 @@ use Rattle.plan.specs.Site.{Site}
 use Rattle.plan.specs.Enter.{Sites, accepted, refused, appended-more, appended-fresh}
 use Rattle.plan.specs.List.{enteredLine, afterLine, withLine, readLines, readList}
 use Rattle.plan.specs.List.{read-next, read-whole, read-enough, cut-length, entered-line}
+use Rattle.plan.specs.Output.{outputFor, outputOf}
 
 -- A cut text that is shortened after its first k bytes is cut at the same place, and its rest is shortened.
 cut-take : (k m : ℕ) (text : List ℕ) (cut : Cut) → CutOf k text cut → k ≤ m
@@ -90,3 +91,8 @@ longer-refused text long =
           ∙ read-enough (length (take 5061 text)) (length text) [] (take 5061 text) (omega arith) (omega (arith, length-take 5061 text))
           ∙ both .2,
     )
+
+-- So its output is that of its first 5,061 bytes.
+pub output-longer : (text : List ℕ) → 5061 ≤ length text → outputOf text ≡ outputOf (take 5061 text)
+unfolding outputOf
+output-longer text long = let both = longer-refused text long in ap outputFor (both .1 ∙ sym (both .2))

@@ -21,13 +21,17 @@ unfoldable pub nameBytes : List ℕ → Bool
 nameBytes [] = true
 nameBytes (b ∷ bytes) = nameByte b && nameBytes bytes
 
+-- The most bytes of a name.
+abbrev pub mostNameBytes : ℕ
+mostNameBytes = 8
+
 -- The rule for a name.
 unfoldable pub isName : List ℕ → Bool
-isName bytes = (leb 1 (length bytes) && leb (length bytes) 8) && nameBytes bytes
+isName bytes = (leb 1 (length bytes) && leb (length bytes) mostNameBytes) && nameBytes bytes
 
--- Both of two tests.
-both : (a b : Bool) → a && b ≡ true → (a ≡ true) × (b ≡ true)
-both a b e = and-eq-true-iff a b .0 e
+-- A test of two parts is passed where both are.
+pub and-both : (a b : Bool) → (a && b) ≡ true → (a ≡ true) × (b ≡ true)
+and-both a b e = and-eq-true-iff a b .0 e
 
 -- The bytes of a name are hyphen or above.
 name-byte-least : (b : ℕ) → nameByte b ≡ true → 45 ≤ b
@@ -35,8 +39,8 @@ name-byte-least b e = of-tests (leb 65 b && leb b 90) refl (leb 48 b && leb b 57
   where
     of-tests : (letter : Bool) → leb 65 b && leb b 90 ≡ letter → (digit : Bool) → leb 48 b && leb b 57 ≡ digit
         → letter || (digit || eqb b 45) ≡ true → 45 ≤ b
-    of-tests true is digit is-digit e = let h : 65 ≤ b = leb-true 65 b (both (leb 65 b) (leb b 90) is .0) in omega arith
-    of-tests false not-letter true is e = let h : 48 ≤ b = leb-true 48 b (both (leb 48 b) (leb b 57) is .0) in omega arith
+    of-tests true is digit is-digit e = let h : 65 ≤ b = leb-true 65 b (and-both (leb 65 b) (leb b 90) is .0) in omega arith
+    of-tests false not-letter true is e = let h : 48 ≤ b = leb-true 48 b (and-both (leb 48 b) (leb b 57) is .0) in omega arith
     of-tests false not-letter false not-digit e = let h : b ≡ 45 = eqb-true b 45 e in omega arith
 
 -- So no byte below hyphen is among them.
@@ -44,29 +48,30 @@ name-bytes-without : (bytes : List ℕ) (b : ℕ) → b < 45 → nameBytes bytes
 unfolding nameBytes
 name-bytes-without [] b low e = tt
 name-bytes-without (c ∷ bytes) b low e =
-    let tests = both (nameByte c) (nameBytes bytes) e in
+    let tests = and-both (nameByte c) (nameBytes bytes) e in
     let least : 45 ≤ c = name-byte-least c (tests .0) in
     (omega arith, name-bytes-without bytes b low (tests .1))
 
 -- A name has no byte below hyphen: no tab and no line feed.
 pub name-without : (bytes : List ℕ) (b : ℕ) → b < 45 → isName bytes ≡ true → Without b bytes
 unfolding isName
-name-without bytes b low e = name-bytes-without bytes b low (both (leb 1 (length bytes) && leb (length bytes) 8) (nameBytes bytes) e .1)
+name-without bytes b low e =
+    name-bytes-without bytes b low (and-both (leb 1 (length bytes) && leb (length bytes) mostNameBytes) (nameBytes bytes) e .1)
 
 -- The lengths of a name.
-name-length : (bytes : List ℕ) → isName bytes ≡ true → (1 ≤ length bytes) × (length bytes ≤ 8)
+name-length : (bytes : List ℕ) → isName bytes ≡ true → (1 ≤ length bytes) × (length bytes ≤ mostNameBytes)
 unfolding isName
 name-length bytes e =
-    let sized = both (leb 1 (length bytes)) (leb (length bytes) 8)
-    (both (leb 1 (length bytes) && leb (length bytes) 8) (nameBytes bytes) e .0) in
-    (leb-true 1 (length bytes) (sized .0), leb-true (length bytes) 8 (sized .1))
+    let sized = and-both (leb 1 (length bytes)) (leb (length bytes) mostNameBytes)
+    (and-both (leb 1 (length bytes) && leb (length bytes) mostNameBytes) (nameBytes bytes) e .0) in
+    (leb-true 1 (length bytes) (sized .0), leb-true (length bytes) mostNameBytes (sized .1))
 
 -- A name has a byte.
 pub name-some : (bytes : List ℕ) → isName bytes ≡ true → 1 ≤ length bytes
 name-some bytes e = name-length bytes e .0
 
 -- A name has at most eight bytes.
-pub name-short : (bytes : List ℕ) → isName bytes ≡ true → length bytes ≤ 8
+pub name-short : (bytes : List ℕ) → isName bytes ≡ true → length bytes ≤ mostNameBytes
 name-short bytes e = name-length bytes e .1
 
 -- Two names are the same.
@@ -83,7 +88,7 @@ same-bytes-same [] [] e = refl
 same-bytes-same [] (c ∷ other) e = absurd (false≢true e)
 same-bytes-same (b ∷ bytes) [] e = absurd (false≢true e)
 same-bytes-same (b ∷ bytes) (c ∷ other) e =
-    let tests = both (eqb b c) (sameBytes bytes other) e in
+    let tests = and-both (eqb b c) (sameBytes bytes other) e in
     ap₂ (λ (first : ℕ) (rest : List ℕ). first ∷ rest) (eqb-true b c (tests .0)) (same-bytes-same bytes other (tests .1))
 
 -- The test finds a name the same as itself.
@@ -94,12 +99,12 @@ same-bytes-refl (b ∷ bytes) = rw (eq-eqb b b refl, same-bytes-refl bytes, same
 
 -- The record of a name: its bytes, then zeros.
 abbrev pub nameOf : List ℕ → Name
-nameOf bytes = record { bytes = bytes ++ replicate (8 - length bytes) 0; len = length bytes }
+nameOf bytes = record { bytes = bytes ++ replicate (mostNameBytes - length bytes) 0; len = length bytes }
 
 -- The name that a record holds.
 abbrev pub bytesOf : Name → List ℕ
 bytesOf name = take (name .len) (name .bytes)
 
 -- A record holds the name that it is the record of.
-pub name-held : (bytes : List ℕ) → length bytes ≤ 8 → bytesOf (nameOf bytes) ≡ bytes
-name-held bytes short = take-append-seam bytes (replicate (8 - length bytes) 0)
+pub name-held : (bytes : List ℕ) → length bytes ≤ mostNameBytes → bytesOf (nameOf bytes) ≡ bytes
+name-held bytes short = take-append-seam bytes (replicate (mostNameBytes - length bytes) 0)

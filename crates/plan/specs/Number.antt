@@ -33,13 +33,13 @@ numberIn (b ∷ []) = digitsAfter 0 (b ∷ [])
 numberIn (b ∷ c ∷ bytes) = elim (eqb b zeroDigit) [ true ↦ none | false ↦ digitsAfter 0 (b ∷ c ∷ bytes) ]
 
 -- A number that is a coordinate: at most 10,000.
-abbrev pub inRange : Option ℕ → Option ℕ
-inRange none = none
-inRange (some n) = elim (leb n greatestCoordinate) [ true ↦ some n | false ↦ none ]
+abbrev pub asCoordinate : Option ℕ → Option ℕ
+asCoordinate none = none
+asCoordinate (some n) = elim (leb n greatestCoordinate) [ true ↦ some n | false ↦ none ]
 
 -- The coordinate that a text writes, if it writes one.
 abbrev pub coordinateIn : List ℕ → Option ℕ
-coordinateIn text = inRange (numberIn text)
+coordinateIn text = asCoordinate (numberIn text)
 
 -- The decimal digits of n, at most k + 1 of them.
 pub digitsOf : ℕ → ℕ → List ℕ

@@ -13,7 +13,7 @@ use lib.ListN.{length, getD, drop, drop-of-length-le}
 use lib.Seq.{drop-cons}
 use borrow.Author.Tests.{le-leb, lt-leb, eq-eqb, ne-eqb}
 use Rattle.placing.specs.Units.{greatestCoordinate}
-use Rattle.plan.specs.Number.{zeroDigit, digitsAfter, numberIn, inRange}
+use Rattle.plan.specs.Number.{zeroDigit, digitsAfter, numberIn, asCoordinate}
 
 -- A digit is appended.
 digit-more : (n b : ℕ) (text : List ℕ) → zeroDigit ≤ b → b ≤ 57 → digitsAfter n (b ∷ text) ≡ digitsAfter (n * 10 + (b - zeroDigit)) text
@@ -48,20 +48,20 @@ unfolding digitsAfter
 end-at n text i h = rw (drop-of-length-le text h)
 
 -- The test of the range, where its outcome is known.
-range-test : (n : ℕ) (t : Bool) → leb n greatestCoordinate ≡ t → _≡_ {A = Option ℕ} (inRange (some n)) (elim t [ true ↦ some n | false ↦ none ])
+range-test : (n : ℕ) (t : Bool) → leb n greatestCoordinate ≡ t → _≡_ {A = Option ℕ} (asCoordinate (some n)) (elim t [ true ↦ some n | false ↦ none ])
 range-test n t e = ap (λ (t : Bool). elim t [ true ↦ some n | false ↦ none ]) e
 
-pub in-range : (n : ℕ) → n ≤ greatestCoordinate → inRange (some n) ≡ some n
+pub in-range : (n : ℕ) → n ≤ greatestCoordinate → asCoordinate (some n) ≡ some n
 in-range n h = range-test n true (le-leb n greatestCoordinate h)
 
 -- A number that is out of range stays so, whatever is appended.
-pub beyond-stays : (n : ℕ) (text : List ℕ) → greatestCoordinate < n → inRange (digitsAfter n text) ≡ none
+pub beyond-stays : (n : ℕ) (text : List ℕ) → greatestCoordinate < n → asCoordinate (digitsAfter n text) ≡ none
 unfolding digitsAfter
 beyond-stays n [] h = range-test n false (lt-leb n greatestCoordinate h)
 beyond-stays n (b ∷ text) h = at (leb zeroDigit b && leb b 57) (beyond-stays (n * 10 + (b - zeroDigit)) text (omega arith))
   where
-    at : (t : Bool) → inRange (digitsAfter (n * 10 + (b - zeroDigit)) text) ≡ none
-        → inRange (elim t [ true ↦ digitsAfter (n * 10 + (b - zeroDigit)) text | false ↦ none ]) ≡ none
+    at : (t : Bool) → asCoordinate (digitsAfter (n * 10 + (b - zeroDigit)) text) ≡ none
+        → asCoordinate (elim t [ true ↦ digitsAfter (n * 10 + (b - zeroDigit)) text | false ↦ none ]) ≡ none
     at true more = more
     at false more = refl
 

@@ -18,15 +18,19 @@ use Rattle.plan.specs.Site.{Site}
 use Rattle.plan.specs.Enter.{Sites, accepted, refused}
 use Rattle.plan.specs.List.{readList}
 use Rattle.plan.specs.Sheet.{sheetOf}
-use Rattle.plan.specs.Calls.{filledWhere}
+use Rattle.plan.specs.Calls.{numberIf, filledWhere}
 
 -- The word refused.
 abbrev pub refusedWord : List ℕ
 refusedWord = 114 ∷ 101 ∷ 102 ∷ 117 ∷ 115 ∷ 101 ∷ 100 ∷ []
 
 -- "A refusal is written as the word refused, a tab, the number, a line feed."
+abbrev pub numberLine : ℕ → List ℕ
+numberLine number = refusedWord ++ (tab ∷ decimal number) ++ (lineFeed ∷ [])
+
+-- The line of a refusal.
 unfoldable pub refusalLine : Refusal → List ℕ
-refusalLine why = refusedWord ++ (tab ∷ decimal (numberOf why)) ++ (lineFeed ∷ [])
+refusalLine why = numberLine (numberOf why)
 
 -- The output for what a list was read as: its sheet, or the refusal. A list of no sites cannot be placed.
 abbrev pub outputFor : Sites → List ℕ
@@ -52,15 +56,22 @@ abbrev pub outputWhere : (short : Bool) → List ℕ → Written
 outputWhere true output = NotWritten ShortBuffer
 outputWhere false output = Bytes (length output)
 
+-- The answer for a text,
 abbrev pub outputWritten : List ℕ → List ℕ → Written
 outputWritten text buffer = outputWhere (ltb (length buffer) (length (outputOf text))) (outputOf text)
 
+-- its number,
+abbrev pub outputNumber : List ℕ → List ℕ → ℕ
+outputNumber text buffer = numberIf (ltb (length buffer) (length (outputOf text))) 10 0
+
+-- and the buffer afterwards.
 abbrev pub outputAfter : List ℕ → List ℕ → List ℕ
 outputAfter text buffer = filledWhere (outputWritten text buffer) (outputOf text) buffer
 
--- The same for the line of a refusal alone.
+-- The answer for the line of a refusal alone,
 abbrev pub refusalWritten : Refusal → List ℕ → Written
 refusalWritten why buffer = outputWhere (ltb (length buffer) (length (refusalLine why))) (refusalLine why)
 
+-- and the buffer afterwards.
 abbrev pub refusalAfter : Refusal → List ℕ → List ℕ
 refusalAfter why buffer = filledWhere (refusalWritten why buffer) (refusalLine why) buffer

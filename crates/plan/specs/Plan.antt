@@ -4,10 +4,9 @@
 use mathlib.Core.Path.{_≡_, refl, ap, ap₂, _∙_}
 use mathlib.Core.Bool.{true, false}
 use mathlib.Core.List.{List, [], _∷_, _++_, map}
-use Prim.Native.Nat.{ℕ, zero, suc, _-_, _≤_}
+use Prim.Native.Nat.{ℕ, _-_, _≤_}
 use lib.ListN.{length, take, replicate, length-map}
 use lib.Seq.{take-append-seam, take-at}
-use Rattle.placing.specs.declared.side.Placed.{Placed}
 use Rattle.placing.specs.declared.units.Place.{Place}
 use Rattle.placing.specs.declared.units.Side.the-variants.{Free}
 use Rattle.placing.specs.Units.{nowhere, Distinct}
@@ -23,10 +22,11 @@ use Rattle.plan.specs.Sheet.{answer-corners}
 abbrev pub nameRecord : Site → Name
 nameRecord site = nameOf (nameIn site)
 
--- The names and the places of some sites, then empty slots.
+-- The names of some sites, then empty slots.
 abbrev pub namesHeld : List Site → List Name
 namesHeld sites = map nameRecord sites ++ replicate (240 - length sites) (nameOf [])
 
+-- The places of some sites, then empty slots.
 abbrev pub placesHeld : List Site → List Place
 placesHeld sites = placesOf sites ++ replicate (240 - length sites) nowhere
 
@@ -81,11 +81,12 @@ sites-held sites =
     )
     (sites-side-by-side sites)
 
--- The plan of some sites holds them, while it is not placed and once it is.
+-- The plan of some sites holds them, while it is not placed
 pub sites-unplaced : (sites : List Site) → Listed sites → sitesIn (unplaced sites) ≡ sites
 unfolding unplaced sitesIn
 sites-unplaced sites listed = sites-held sites
 
+-- and once it is.
 pub sites-placed : (sites : List Site) → Listed sites → sitesIn (placed sites) ≡ sites
 unfolding placed sitesIn
 sites-placed sites listed = sites-held sites

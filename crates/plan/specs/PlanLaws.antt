@@ -1,26 +1,28 @@
 -- What a plan that the calls hand back holds, and the plan with one site more.
 -- Assumes nothing.
 use mathlib.Core.Path.{_≡_, refl, sym, ap, ap₂, _∙_, subst}
-use mathlib.Core.Bool.{true, false}
+use mathlib.Core.Bool.{true, false, false≢true}
 use mathlib.Core.List.{List, [], _∷_, _++_, map, map-append, append-assoc}
 use Prim.Native.Nat.{ℕ, suc, _+_, _-_, _*_, _≤_, _<_}
 use native.Mathlib.Omega.{arith}
 use lib.ListN.{length, getD, take, set, replicate, length-map, length-append, List·getD-append, List·getD-map}
-use lib.Seq.{take-at, set-at}
+use lib.Seq.{take-at, set-at, getD-take}
 use Rattle.placing.specs.declared.side.Placed.{Placed}
 use Rattle.placing.specs.declared.units.Place.{Place}
 use Rattle.placing.specs.declared.units.Side.the-variants.{Free}
 use Rattle.placing.specs.Units.{nowhere}
-use Rattle.placing.specs.Answer.{answerOf}
+use Rattle.placing.specs.Choice.{cornerAt}
+use Rattle.placing.specs.Answer.{Answer, answerOf}
 use Rattle.placing.specs.Placed.{placedAs, MayPlace}
 use Rattle.plan.specs.declared.name.Name.{Name}
 use Rattle.plan.specs.declared.plan.Plan.{Plan}
 use Rattle.plan.specs.Name.{bytesOf, nameOf, name-short}
 use Rattle.plan.specs.Site.{Site, noSite, placeOf, placesOf, nameTaken, placeTaken, Listed}
 use Rattle.plan.specs.Enter.{listed-none}
-use Rattle.plan.specs.Taken.{siteOf, NamesHeld, namesTaken, placesTaken}
+use Rattle.plan.specs.Taken.{siteOf, ShortNames, namesTaken, placesTaken}
 use Rattle.plan.specs.TakenLaws.{names-of-sites, places-of-sites}
-use Rattle.plan.specs.Plan.{nameRecord, namesHeld, placesHeld, unplaced, placed, sitesIn, Valid, is-unplaced, is-placed, sites-unplaced, sites-placed}
+use Rattle.plan.specs.Plan.{nameRecord, namesHeld, placesHeld, unplaced, placed, sitesIn, Valid, is-unplaced, is-placed, answerIn}
+use Rattle.plan.specs.Plan.{sites-unplaced, sites-placed, placed-answer}
 
 -- A plan's count, names and places are those of these sites, which are by the rules.
 pub record Holding (plan : Plan) (sites : List Site) : Type 0 where
@@ -47,13 +49,14 @@ pub empty-started : {none : Name} → none ≡ nameOf [] → unplacedOf 0 (repli
 unfolding unplaced
 empty-started e = ap (λ (name : Name). unplacedOf 0 (replicate 240 name) (replicate 240 nowhere)) e
 
+-- and so one that the calls hand back.
 pub empty-valid : {none : Name} → none ≡ nameOf [] → Valid (unplacedOf 0 (replicate 240 none) (replicate 240 nowhere))
 empty-valid e = subst Valid (sym (empty-started e)) (is-unplaced [] listed-none)
 
 -- ---- reading what a plan holds
 
 -- The names that it holds are short.
-pub holding-short : {plan : Plan} {sites : List Site} → Holding plan sites → NamesHeld (plan .count) (plan .names)
+pub holding-short : {plan : Plan} {sites : List Site} → Holding plan sites → ShortNames (plan .count) (plan .names)
 holding-short {plan} {sites} holding = rw (holding .count, holding .names) (record { short = held })
   where
     held : (i : ℕ) → i < length sites → getD (namesHeld sites) i (nameOf []) .len ≤ 8
@@ -71,12 +74,13 @@ holding-places {plan} {sites} holding =
     ap₂ (λ (n : ℕ) (places : List Place). take n places) (holding .count) (holding .places)
     ∙ take-at (placesOf sites) _ (length sites) (length-map sites placeOf)
 
--- Whether a name, or a place, is already in it.
+-- Whether a name is already in it,
 pub holding-name : {plan : Plan} {sites : List Site} → Holding plan sites → (bytes : List ℕ)
     → namesTaken (plan .count) (plan .names) bytes ≡ nameTaken sites bytes
 holding-name {plan} {sites} holding bytes =
     ap₂ (λ (n : ℕ) (names : List Name). namesTaken n names bytes) (holding .count) (holding .names) ∙ names-of-sites sites bytes
 
+-- or a place.
 pub holding-place : {plan : Plan} {sites : List Site} → Holding plan sites → (place : Place)
     → placesTaken (plan .count) (plan .places) place ≡ placeTaken sites place
 holding-place {plan} {sites} holding place =
@@ -144,3 +148,22 @@ holding-may {plan} {sites} holding table some-sites room =
       in-range = rw (holding-places holding) (holding .listed .in-range);
       room = room;
     }
+
+-- ---- the answer of a placed plan
+
+-- It holds the answer for the places of its sites,
+pub valid-answer : {plan : Plan} → Valid plan → plan .placed ≡ true → answerIn plan ≡ answerOf (placesOf (sitesIn plan))
+unfolding unplaced
+valid-answer (is-unplaced sites listed) is-so = absurd (false≢true is-so)
+valid-answer (is-placed sites listed some-sites) is-so =
+    placed-answer sites (listed .places-distinct) ∙ ap (λ (l : List Site). answerOf (placesOf l)) (sym (sites-placed sites listed))
+
+-- so its side
+pub valid-side : {plan : Plan} → Valid plan → plan .placed ≡ true → plan .side ≡ answerOf (placesOf (sitesIn plan)) .side
+valid-side valid is-so = ap (λ (a : Answer). a .side) (valid-answer valid is-so)
+
+-- and the corner of each site.
+pub valid-corner : {plan : Plan} → Valid plan → plan .placed ≡ true → (i : ℕ) → i < plan .count
+    → getD (plan .corners) i 0 ≡ cornerAt (answerOf (placesOf (sitesIn plan)) .corners) i
+valid-corner {plan} valid is-so i below =
+    sym (getD-take (plan .count) (plan .corners) i 0 below) ∙ ap (λ (a : Answer). cornerAt (a .corners) i) (valid-answer valid is-so)

@@ -1,58 +1,53 @@
 -- What demand 3 counts, and the list that a sheet carries: read off the bytes of a sheet, with no plan at hand.
 -- Assumes nothing.
-use mathlib.Core.Path.{_≡_, refl}
 use mathlib.Core.Bool.{true, false}
 use mathlib.Core.List.{List, [], _∷_, _++_}
 use mathlib.Core.Option.{Option, some, none}
 use Prim.Native.Nat.{ℕ}
-use lib.Dec.{eqb}
-use borrow.Author.Tests.{ne-eqb}
 use Rattle.placing.specs.declared.units.Place.{Place}
 use Rattle.placing.specs.Units.{nowhere}
-use Rattle.plan.specs.Text.{tab, lineFeed, withFirst, fieldsOf, Without}
+use Rattle.plan.specs.Text.{tab, lineFeed, linesOf, fieldsOf}
 use Rattle.plan.specs.Number.{numberIn}
+use Rattle.plan.specs.Name.{sameBytes}
 use Rattle.plan.specs.Site.{placeAt}
+use Rattle.plan.specs.Sheet.{sideWord}
 
--- The lines of a text, each ended by a line feed; bytes after the last line feed are no line.
-unfoldable pub linesOf : List ℕ → List (List ℕ)
-linesOf [] = []
-linesOf (b ∷ text) = elim (eqb b lineFeed) [ true ↦ [] ∷ linesOf text | false ↦ withFirst b (linesOf text) ]
+-- The number in the fields of a first line: "the word side, a tab, and a side". None where the fields are others or the side
+-- is no number, as the word free.
+abbrev pub numberOnFields : List (List ℕ) → Option ℕ
+numberOnFields [] = none
+numberOnFields (word ∷ []) = none
+numberOnFields (word ∷ side ∷ []) = elim (sameBytes word sideWord) [ true ↦ numberIn side | false ↦ none ]
+numberOnFields (word ∷ side ∷ other ∷ fields) = none
 
--- A text without a line feed, then a line feed, is the first line.
-pub lines-more : (line rest : List ℕ) → Without lineFeed line → linesOf (line ++ (lineFeed ∷ rest)) ≡ line ∷ linesOf rest
-unfolding linesOf
-lines-more [] rest no-feed = refl
-lines-more (b ∷ line) rest no-feed = rw (ne-eqb b lineFeed (no-feed .0), lines-more line rest (no-feed .1), linesOf)
-
--- The second field of a line.
-abbrev pub secondField : List (List ℕ) → List ℕ
-secondField [] = []
-secondField (first ∷ []) = []
-secondField (first ∷ second ∷ fields) = second
-
+-- The number on the first of some lines.
 abbrev pub numberOnLine : List (List ℕ) → Option ℕ
 numberOnLine [] = none
-numberOnLine (line ∷ lines) = numberIn (secondField (fieldsOf line))
+numberOnLine (line ∷ lines) = numberOnFields (fieldsOf line)
 
--- "Its number is the side it prints": the number in the second field of the first line, if one is written there.
+-- "Its number is the side it prints": the number on the first line, if one is written there.
 abbrev pub numberOn : List ℕ → Option ℕ
 numberOn sheet = numberOnLine (linesOf sheet)
 
+-- A number that is read, or 0 where none is. On the site lines of a written sheet one always is.
 abbrev pub orZero : Option ℕ → ℕ
 orZero none = 0
 orZero (some n) = n
 
--- The spot on a site line: its second and third fields.
+-- The spot on a site line: its second and third fields. A line with fewer fields gives the place 0, 0, and a field that is no
+-- number the coordinate 0; no written sheet has such a line.
 abbrev pub spotIn : List (List ℕ) → Place
 spotIn [] = nowhere
 spotIn (name ∷ []) = nowhere
 spotIn (name ∷ x ∷ []) = nowhere
 spotIn (name ∷ x ∷ y ∷ fields) = placeAt (orZero (numberIn x)) (orZero (numberIn y))
 
+-- One spot for each of some site lines.
 unfoldable pub spotsOnLines : List (List ℕ) → List Place
 spotsOnLines [] = []
 spotsOnLines (line ∷ lines) = spotIn (fieldsOf line) ∷ spotsOnLines lines
 
+-- The lines under the first: the site lines of a sheet.
 abbrev pub underFirst : List (List ℕ) → List (List ℕ)
 underFirst [] = []
 underFirst (line ∷ lines) = lines
@@ -68,6 +63,7 @@ withoutLast (field ∷ []) = []
 withoutLast (field ∷ last ∷ []) = field
 withoutLast (field ∷ next ∷ other ∷ fields) = field ++ (tab ∷ withoutLast (next ∷ other ∷ fields))
 
+-- Each of some site lines without its last field, with its line feed again.
 unfoldable pub carriedLines : List (List ℕ) → List ℕ
 carriedLines [] = []
 carriedLines (line ∷ lines) = withoutLast (fieldsOf line) ++ (lineFeed ∷ carriedLines lines)

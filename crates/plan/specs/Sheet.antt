@@ -13,12 +13,11 @@ use Rattle.placing.specs.Units.{freeSide, xOf, yOf}
 use Rattle.placing.specs.Corner.{Corner}
 use Rattle.placing.specs.Choice.{Corners, Good, cornerAt}
 use Rattle.placing.specs.Answer.{Answer, answerOf, IsAnswer, is-free, is-number, answer-is}
-use Rattle.plan.specs.Text.{tab, lineFeed, Without, without-append}
+use Rattle.plan.specs.Text.{tab, lineFeed, linesAfter, linesOf, Without, without-append, lines-more}
 use Rattle.plan.specs.Number.{decimal, decimal-without, decimal-short, decimal-some, decimal-digit}
 use Rattle.plan.specs.Name.{name-short, name-some}
 use Rattle.plan.specs.Site.{Site, placesOf, placeOf, noSite, Listed, ByRules, place-at}
 use Rattle.plan.specs.List.{listLine, line-without}
-use Rattle.plan.specs.ReadOff.{linesOf, lines-more}
 
 -- The word side.
 abbrev pub sideWord : List ℕ
@@ -151,7 +150,7 @@ site-line-whole {site} corner rules =
 
 -- The lines under the first are those of the sites.
 site-lines : {sites : List Site} {corners : List ℕ} → Lined sites corners → linesOf (siteLines sites corners) ≡ lineOfEach sites corners
-unfolding siteLines lineOfEach linesOf
+unfolding siteLines lineOfEach linesAfter
 site-lines no-line = refl
 site-lines (one-more {site} {sites} {corner} {corners} rules c rest) =
     lines-more (siteLine site corner) (siteLines sites corners) (site-line-whole corner rules)

@@ -14,9 +14,11 @@ use Rattle.placing.specs.Units.{xOf, yOf}
 use Rattle.placing.specs.Choice.{Corners}
 use Rattle.placing.specs.Answer.{Answer, answerOf, IsAnswer, is-free, is-number, answer-is}
 use Rattle.placing.specs.Twice.{MeetingPair, answer-twice}
-use Rattle.plan.specs.Text.{tab, fieldsOf, Without, fields-one, fields-more}
+use Rattle.plan.specs.declared.refusal.Refusal.{Refusal}
+use Rattle.plan.specs.Refusal.{numberOf}
+use Rattle.plan.specs.Text.{tab, lineFeed, fieldsOf, Without, without-append, lines-more, fields-one, fields-more}
 use Rattle.plan.specs.Number.{numberIn, digitsAfter, decimal, number-decimal, decimal-without}
-use Rattle.plan.specs.Name.{name-without}
+use Rattle.plan.specs.Name.{sameBytes, name-without}
 use Rattle.plan.specs.Site.{Site, placesOf, Listed, ByRules}
 use Rattle.plan.specs.Enter.{accepted}
 use Rattle.plan.specs.List.{readList, listLine, listText, read-listed, list-read, read-list}
@@ -35,7 +37,7 @@ use Rattle.plan.specs.Sheet.{
   sheet-lines,
 }
 use Rattle.plan.specs.ReadOff.{
-  secondField,
+  numberOnFields,
   numberOnLine,
   numberOn,
   spotIn,
@@ -46,7 +48,7 @@ use Rattle.plan.specs.ReadOff.{
   carriedLines,
   carried,
 }
-use Rattle.plan.specs.Output.{outputOf, output-sheet}
+use Rattle.plan.specs.Output.{refusedWord, refusalLine, outputOf, output-sheet}
 use Rattle.plan.specs.Demands.{NoRival}
 
 -- ---- fields
@@ -130,9 +132,10 @@ side-read (is-number {h} none-free least most first above) = number-decimal h (o
 
 -- The number on a sheet is the side that it prints, where that is a number:
 pub number-read : (sites : List Site) → Listed sites → numberOn (sheetOf sites) ≡ sideNumber (answerOf (placesOf sites) .side)
+unfolding sameBytes
 number-read sites listed =
     ap numberOnLine (sheet-lines sites listed)
-    ∙ ap (λ (fields : List (List ℕ)). numberIn (secondField fields)) (side-fields (answerOf (placesOf sites) .side))
+    ∙ ap numberOnFields (side-fields (answerOf (placesOf sites) .side))
     ∙ side-read (answer-is (placesOf sites) (listed .places-distinct))
 
 -- a side h is read as h,
@@ -143,6 +146,22 @@ number-on-sheet sites h listed is = number-read sites listed ∙ ap sideNumber i
 -- and free as no number.
 pub no-number-on-sheet : (sites : List Site) → Listed sites → answerOf (placesOf sites) .side ≡ Free → numberOn (sheetOf sites) ≡ none
 no-number-on-sheet sites listed is = number-read sites listed ∙ ap sideNumber is
+
+-- Nor has the line of a refusal a number.
+pub no-number-on-refusal : (why : Refusal) → numberOn (refusalLine why) ≡ none
+unfolding refusalLine sameBytes
+no-number-on-refusal why =
+    ap numberOnLine (lines-more (refusedWord ++ (tab ∷ number)) [] (without-append lineFeed refusedWord (tab ∷ number)
+    (word lineFeed (omega arith)) (omega arith, decimal-without (numberOf why) lineFeed (omega arith))))
+    ∙ ap numberOnFields
+    (fields-more refusedWord number (word tab (omega arith))
+    ∙ ap (λ (fields : List (List ℕ)). refusedWord ∷ fields) (fields-one number (decimal-without (numberOf why) tab (omega arith))))
+  where
+    number : List ℕ
+    number = decimal (numberOf why)
+
+    word : (b : ℕ) → b < 48 → Without b refusedWord
+    word b below = (omega arith, (omega arith, (omega arith, (omega arith, (omega arith, (omega arith, (omega arith, tt)))))))
 
 -- The spot on a site line is the site's place.
 line-spot : {site : Site} (corner : ℕ) → ByRules site → spotIn (fieldsOf (siteLine site corner)) ≡ site .place

@@ -1,17 +1,18 @@
 -- The sites of a plan: names and places, in list order.
 -- Assumes nothing.
 use mathlib.Core.Path.{_≡_, refl, sym, ap, _∙_}
-use mathlib.Core.Bool.{Bool, true, false, _&&_, _||_, true≢false, false≢true}
+use mathlib.Core.Bool.{Bool, true, false, _||_, true≢false}
 use mathlib.Core.List.{List, [], _∷_, _++_, map}
 use mathlib.Core.Logic.{_≢_}
+use mathlib.Mathlib.Data.Bool.Basic.{or-eq-false-eq-eq-false-and-eq-false}
 use Prim.Native.Nat.{ℕ, zero, suc, _+_, _≤_, _<_}
 use native.Mathlib.Omega.{arith}
-use borrow.Author.Tests.{eqb-true, eq-eqb}
-use lib.Dec.{eqb}
 use lib.ListN.{length, getD, List·getD-map, length-map, length-append}
 use lib.Seq.{getD-append-seam}
 use Rattle.placing.specs.declared.units.Place.{Place}
-use Rattle.placing.specs.Units.{greatestCoordinate, nowhere, xOf, yOf, siteAt, Same, Distinct, InRange}
+use Rattle.placing.specs.Decides.{Decides}
+use Rattle.placing.specs.Decide.{samePlace, same-decides}
+use Rattle.placing.specs.Units.{mostSites, greatestCoordinate, nowhere, xOf, yOf, siteAt, Same, Distinct, InRange}
 use Rattle.plan.specs.Name.{isName, sameBytes, same-bytes-same, same-bytes-refl}
 
 -- A site: the spot of a bay sensor, by its name and place.
@@ -41,8 +42,7 @@ nameTaken (site ∷ sites) name = sameBytes (site .name) name || nameTaken sites
 -- A place is already in the plan.
 unfoldable pub placeTaken : List Site → Place → Bool
 placeTaken [] place = false
-placeTaken (site ∷ sites) place =
-    (eqb (xOf (site .place)) (xOf place) && eqb (yOf (site .place)) (yOf place)) || placeTaken sites place
+placeTaken (site ∷ sites) place = samePlace (site .place) place || placeTaken sites place
 
 -- The site that stands at a number past the list: nothing depends on it.
 abbrev pub noSite : Site
@@ -50,123 +50,79 @@ noSite = record { name = []; place = nowhere }
 
 -- What holds of the sites of every plan: at most 240, names and places by the rules and distinct.
 pub record Listed (sites : List Site) : Type 0 where
-  pub few : length sites ≤ 240
+  pub few : length sites ≤ mostSites
   pub named : (i : ℕ) → i < length sites → isName (getD sites i noSite .name) ≡ true
   pub names-distinct : (i j : ℕ) → i < length sites → j < length sites → i ≢ j
       → getD sites i noSite .name ≡ getD sites j noSite .name → ⊥
   pub in-range : InRange (placesOf sites)
   pub places-distinct : Distinct (placesOf sites)
 
--- Some site passes a test.
-abbrev someSite : (Site → Bool) → List Site → Bool
-someSite test [] = false
-someSite test (site ∷ sites) = test site || someSite test sites
+-- Some element passes a test.
+abbrev pub among : {A : Type 0} → (A → Bool) → List A → Bool
+among test [] = false
+among test (a ∷ l) = test a || among test l
 
--- A test that is passed exactly where R holds.
-module _ (test : Site → Bool) (R : Site → Type 0) (passed : (site : Site) → test site ≡ true → R site)
-    (passes : (site : Site) → R site → test site ≡ true) where
+-- Where one of two tests or the other fails, both fail.
+neither : (a b : Bool) → (a || b) ≡ false → (a ≡ false) × (b ≡ false)
+neither a b e = or-eq-false-eq-eq-false-and-eq-false a b .0 e
+
+-- A test that decides R.
+module _ {test : Site → Bool} {R : Site → Type 0} (decides : (site : Site) → Decides (test site) (R site)) where
   -- Where no site passes, it holds of none ..
-  none-passes : (sites : List Site) → someSite test sites ≡ false → (i : ℕ) → i < length sites → R (getD sites i noSite) → ⊥
+  none-passes : (sites : List Site) → among test sites ≡ false → (i : ℕ) → i < length sites → R (getD sites i noSite) → ⊥
   none-passes [] none i below holds = absurd (omega arith)
-  none-passes (site ∷ sites) none zero below holds = true≢false (sym (ap (λ (b : Bool). b || someSite test sites) (passes site holds)) ∙ none)
-  none-passes (site ∷ sites) none (suc i) below holds = none-passes sites (or-false-right (test site) _ none) i (omega arith) holds
-    where
-      or-false-right : (a b : Bool) → (a || b) ≡ false → b ≡ false
-      or-false-right true b e = absurd (true≢false e)
-      or-false-right false b e = e
+  none-passes (site ∷ sites) none zero below holds = decides site .no-fails (neither (test site) _ none .0) holds
+  none-passes (site ∷ sites) none (suc i) below holds = none-passes sites (neither (test site) _ none .1) i (omega arith) holds
 
   -- .. and where it holds of none, no site passes.
-  passes-none : (sites : List Site) → ((i : ℕ) → i < length sites → R (getD sites i noSite) → ⊥) → someSite test sites ≡ false
+  passes-none : (sites : List Site) → ((i : ℕ) → i < length sites → R (getD sites i noSite) → ⊥) → among test sites ≡ false
   passes-none [] fails = refl
   passes-none (site ∷ sites) fails =
       go (test site) refl (passes-none sites (λ i below. fails (suc i) (omega arith)))
     where
-      go : (b : Bool) → test site ≡ b → someSite test sites ≡ false → (b || someSite test sites) ≡ false
-      go true e rest = absurd (fails 0 (omega arith) (passed site e))
+      go : (b : Bool) → test site ≡ b → among test sites ≡ false → (b || among test sites) ≡ false
+      go true e rest = absurd (fails 0 (omega arith) (decides site .yes-holds e))
       go false e rest = rest
 
 -- A name is taken where some site has the same bytes as name.
-name-test : (sites : List Site) (name : List ℕ) → nameTaken sites name ≡ someSite (λ site. sameBytes (site .name) name) sites
+name-test : (sites : List Site) (name : List ℕ) → nameTaken sites name ≡ among (λ site. sameBytes (site .name) name) sites
 unfolding nameTaken
 name-test [] name = refl
 name-test (site ∷ sites) name = ap (λ (b : Bool). sameBytes (site .name) name || b) (name-test sites name)
 
--- Two places have the same coordinates, as a test.
-samePlace : Place → Place → Bool
-samePlace s t = eqb (xOf s) (xOf t) && eqb (yOf s) (yOf t)
+-- The same bytes are the same name.
+name-decides : (name : List ℕ) (site : Site) → Decides (sameBytes (site .name) name) (site .name ≡ name)
+name-decides name site =
+    record {
+      yes-holds = same-bytes-same (site .name) name;
+      no-fails = λ e same. true≢false (sym (rw same (same-bytes-refl name)) ∙ e);
+    }
 
 -- A place is taken where some site has the same coordinates.
-place-test : (sites : List Site) (place : Place) → placeTaken sites place ≡ someSite (λ site. samePlace (site .place) place) sites
-unfolding placeTaken samePlace
+place-test : (sites : List Site) (place : Place) → placeTaken sites place ≡ among (λ site. samePlace (site .place) place) sites
+unfolding placeTaken
 place-test [] place = refl
 place-test (site ∷ sites) place = ap (λ (b : Bool). samePlace (site .place) place || b) (place-test sites place)
-
--- A test of two parts is passed where both are.
-pub and-both : (a b : Bool) → (a && b) ≡ true → (a ≡ true) × (b ≡ true)
-and-both true b e = (refl, e)
-and-both false b e = absurd (false≢true e)
-
--- Places that pass are the same ..
-same-place : (s t : Place) → samePlace s t ≡ true → Same s t
-unfolding samePlace
-same-place s t e =
-    let both = and-both (eqb (xOf s) (xOf t)) (eqb (yOf s) (yOf t)) e in
-    record { same-x = eqb-true (xOf s) (xOf t) (both .0); same-y = eqb-true (yOf s) (yOf t) (both .1) }
-
--- .. and the same places pass.
-place-same : (s t : Place) → Same s t → samePlace s t ≡ true
-unfolding samePlace
-place-same s t same = rw (eq-eqb (xOf s) (xOf t) (same .same-x)) (eq-eqb (yOf s) (yOf t) (same .same-y))
 
 -- A name that is not taken is the name of no site ..
 pub name-fresh : (sites : List Site) (name : List ℕ) → nameTaken sites name ≡ false
     → (i : ℕ) → i < length sites → getD sites i noSite .name ≡ name → ⊥
-name-fresh sites name free =
-    none-passes
-    (λ site. sameBytes (site .name) name)
-    (λ site. site .name ≡ name)
-    (λ site. same-bytes-same (site .name) name)
-    (λ site same. rw same (same-bytes-refl name))
-    sites
-    (sym (name-test sites name) ∙ free)
+name-fresh sites name free = none-passes (name-decides name) sites (sym (name-test sites name) ∙ free)
 
 -- .. and the name of no site is not taken.
 pub fresh-name : (sites : List Site) (name : List ℕ) → ((i : ℕ) → i < length sites → getD sites i noSite .name ≡ name → ⊥)
     → nameTaken sites name ≡ false
-fresh-name sites name fresh =
-    name-test sites name
-    ∙ passes-none
-    (λ site. sameBytes (site .name) name)
-    (λ site. site .name ≡ name)
-    (λ site. same-bytes-same (site .name) name)
-    (λ site same. rw same (same-bytes-refl name))
-    sites
-    fresh
+fresh-name sites name fresh = name-test sites name ∙ passes-none (name-decides name) sites fresh
 
 -- A place that is not taken is the place of no site ..
 pub place-fresh : (sites : List Site) (place : Place) → placeTaken sites place ≡ false
     → (i : ℕ) → i < length sites → Same (getD sites i noSite .place) place → ⊥
-place-fresh sites place free =
-    none-passes
-    (λ site. samePlace (site .place) place)
-    (λ site. Same (site .place) place)
-    (λ site. same-place (site .place) place)
-    (λ site. place-same (site .place) place)
-    sites
-    (sym (place-test sites place) ∙ free)
+place-fresh sites place free = none-passes (λ site. same-decides (site .place) place) sites (sym (place-test sites place) ∙ free)
 
 -- .. and the place of no site is not taken.
 pub fresh-place : (sites : List Site) (place : Place) → ((i : ℕ) → i < length sites → Same (getD sites i noSite .place) place → ⊥)
     → placeTaken sites place ≡ false
-fresh-place sites place fresh =
-    place-test sites place
-    ∙ passes-none
-    (λ site. samePlace (site .place) place)
-    (λ site. Same (site .place) place)
-    (λ site. same-place (site .place) place)
-    (λ site. place-same (site .place) place)
-    sites
-    fresh
+fresh-place sites place fresh = place-test sites place ∙ passes-none (λ site. same-decides (site .place) place) sites fresh
 
 -- A site by the rules for names and coordinates.
 pub record ByRules (site : Site) : Type 0 where

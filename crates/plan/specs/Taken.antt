@@ -1,12 +1,11 @@
 -- Whether a name or a place is already in a plan, as its record holds them.
 -- Assumes nothing.
-use mathlib.Core.Bool.{Bool, true, false, _&&_, _||_}
+use mathlib.Core.Bool.{Bool, false, _||_}
 use mathlib.Core.List.{List, [], _∷_}
 use Prim.Native.Nat.{ℕ, _≤_, _<_}
-use lib.Dec.{eqb}
-use lib.ListN.{length, getD, take}
+use lib.ListN.{getD, take}
 use Rattle.placing.specs.declared.units.Place.{Place}
-use Rattle.placing.specs.Units.{xOf, yOf}
+use Rattle.placing.specs.Decide.{samePlace}
 use Rattle.plan.specs.declared.name.Name.{Name}
 use Rattle.plan.specs.Name.{bytesOf, nameOf, sameBytes}
 use Rattle.plan.specs.Site.{Site}
@@ -16,7 +15,7 @@ abbrev pub siteOf : Name → Place → Site
 siteOf name place = record { name = bytesOf name; place = place }
 
 -- The first n names are at most 8 bytes long.
-pub record NamesHeld (n : ℕ) (names : List Name) : Type 0 where
+pub record ShortNames (n : ℕ) (names : List Name) : Type 0 where
   pub short : (i : ℕ) → i < n → getD names i (nameOf []) .len ≤ 8
 
 -- One of these names is this one.
@@ -31,7 +30,7 @@ namesTaken n names bytes = nameAmong (take n names) bytes
 -- One of these places is this one.
 unfoldable pub placeAmong : List Place → Place → Bool
 placeAmong [] place = false
-placeAmong (other ∷ places) place = (eqb (xOf other) (xOf place) && eqb (yOf other) (yOf place)) || placeAmong places place
+placeAmong (other ∷ places) place = samePlace other place || placeAmong places place
 
 -- One of the first n places is this one.
 abbrev pub placesTaken : ℕ → List Place → Place → Bool

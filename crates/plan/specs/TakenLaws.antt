@@ -12,17 +12,14 @@ use lib.ListN.{length, getD, take, replicate, length-map}
 use lib.Seq.{take-append-seam, take-at}
 use Rattle.placing.specs.declared.units.Place.{Place}
 use Rattle.placing.specs.Units.{xOf, yOf}
+use Rattle.placing.specs.Decide.{samePlace}
 use Rattle.plan.specs.declared.name.Name.{Name}
 use Rattle.plan.specs.Name.{bytesOf, nameOf, sameBytes}
-use Rattle.plan.specs.Site.{Site, placeOf, placesOf, nameTaken, placeTaken}
+use Rattle.plan.specs.Site.{Site, placeOf, placesOf, nameTaken, placeTaken, among}
 use Rattle.plan.specs.Plan.{nameRecord, namesHeld, placesHeld}
-use Rattle.plan.specs.Taken.{NamesHeld, nameAmong, namesTaken, placeAmong, placesTaken}
+use Rattle.plan.specs.Taken.{ShortNames, nameAmong, namesTaken, placeAmong, placesTaken}
 
--- Some element passes a test.
-abbrev pub among : {A : Type 0} → (A → Bool) → List A → Bool
-among test [] = false
-among test (a ∷ l) = test a || among test l
-
+-- One element more that does not pass.
 among-suc : {A : Type 0} (test : A → Bool) (l : List A) (i : ℕ) (d : A) → i < length l → among test (take i l) ≡ false
     → test (getD l i d) ≡ false → among test (take (suc i) l) ≡ false
 among-suc test [] i d below none fails = absurd (not-suc-le-zero below)
@@ -71,14 +68,14 @@ same-element (a ∷ l) zero d e below = refl
 same-element (a ∷ l) (suc i) d e below = same-element l i d e (le-of-suc-le-suc below)
 
 -- A held name is short.
-pub held-short : {n : ℕ} {names : List Name} → NamesHeld n names → (i : ℕ) (d : Name) → i < n → i < length names → getD names i d .len ≤ 8
+pub held-short : {n : ℕ} {names : List Name} → ShortNames n names → (i : ℕ) (d : Name) → i < n → i < length names → getD names i d .len ≤ 8
 held-short {n} {names} held i d counted below = rw (same-element names i d (nameOf []) below) (held .short i counted)
 
 -- ---- places
 
 -- The test for a place.
 abbrev pub isAt : Place → Place → Bool
-isAt place other = eqb (xOf other) (xOf place) && eqb (yOf other) (yOf place)
+isAt place other = samePlace other place
 
 -- A place is among some where one of them passes it.
 pub place-among : (places : List Place) (place : Place) → placeAmong places place ≡ among (isAt place) places

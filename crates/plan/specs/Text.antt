@@ -3,7 +3,7 @@
 use mathlib.Core.Path.{_≡_, refl, sym, ap, ap₂, _∙_, subst}
 use mathlib.Core.Logic.{_≢_}
 use mathlib.Core.Bool.{Bool, true, false}
-use mathlib.Core.List.{List, [], _∷_, _++_}
+use mathlib.Core.List.{List, [], _∷_, _++_, append-nil, append-assoc}
 use mathlib.Core.Option.{Option, some, none, Option·map, Option·some-injective, Option·none-ne-some}
 use Prim.Native.Nat.{ℕ, zero, suc, _≤_, _<_, zero-le, suc-le-suc}
 use native.Mathlib.Nat.{not-suc-le-zero, le-of-suc-le-suc}
@@ -35,8 +35,22 @@ cutWithin (suc k) (b ∷ text) =
     elim (eqb b lineFeed) [ true ↦ some (record { line = []; rest = text }) | false ↦ Option·map (withByte b) (cutWithin k text) ]
 
 -- "A line has at most 20 bytes before its line feed."
+abbrev pub mostLineBytes : ℕ
+mostLineBytes = 20
+
+-- The text cut at the end of its first line, if that is no longer.
 abbrev pub firstLine : List ℕ → Option Cut
-firstLine text = cutWithin 21 text
+firstLine text = cutWithin (suc mostLineBytes) text
+
+-- The lines of a text after the bytes of a line so far.
+unfoldable pub linesAfter : List ℕ → List ℕ → List (List ℕ)
+linesAfter line [] = []
+linesAfter line (b ∷ text) =
+    elim (eqb b lineFeed) [ true ↦ line ∷ linesAfter [] text | false ↦ linesAfter (line ++ (b ∷ [])) text ]
+
+-- The lines of a text, each ended by a line feed; bytes after the last line feed are no line.
+abbrev pub linesOf : List ℕ → List (List ℕ)
+linesOf text = linesAfter [] text
 
 -- Fields of which the first has one byte more.
 abbrev pub withFirst : ℕ → List (List ℕ) → List (List ℕ)
@@ -99,6 +113,21 @@ unfolding cutWithin
 cut-is zero text cut e = absurd (Option·none-ne-some cut e)
 cut-is (suc k) [] cut e = absurd (Option·none-ne-some cut e)
 cut-is (suc k) (b ∷ text) cut e = cut-is-step k b text cut (eqb b lineFeed) refl (cutWithin k text) (cut-is k text) e
+
+-- ---- laws: the lines of a text
+
+-- The bytes up to a line feed end the line so far.
+lines-after : (before line rest : List ℕ) → Without lineFeed line
+    → linesAfter before (line ++ (lineFeed ∷ rest)) ≡ (before ++ line) ∷ linesOf rest
+unfolding linesAfter
+lines-after before [] rest no-feed = ap (λ (l : List ℕ). l ∷ linesOf rest) (sym (append-nil before))
+lines-after before (b ∷ line) rest no-feed =
+    rw (ne-eqb b lineFeed (no-feed .0), linesAfter)
+    (lines-after (before ++ (b ∷ [])) line rest (no-feed .1) ∙ ap (λ (l : List ℕ). l ∷ linesOf rest) (append-assoc before (b ∷ []) line))
+
+-- A text without a line feed, then a line feed, is the first line.
+pub lines-more : (line rest : List ℕ) → Without lineFeed line → linesOf (line ++ (lineFeed ∷ rest)) ≡ line ∷ linesOf rest
+lines-more line rest no-feed = lines-after [] line rest no-feed
 
 -- ---- laws: the fields of a line
 

@@ -13,14 +13,19 @@ use placing::units::Limits;
 use placing::units::Place;
 use placing::units::Units;
 ghost use mathlib.Core.Path.{_≡_};
-ghost use Rattle.plan.specs.Plan.{Valid};
-ghost use Rattle.plan.specs.Calls.{enteredIn, placedIn, tableAfter, sideAsked, cornerAsked, counted};
+ghost use Rattle.placing.specs.Choice.{cornerAt};
+ghost use Rattle.plan.specs.Plan.{sitesIn, Valid};
+ghost use Rattle.plan.specs.Calls.{enteredIn, placedIn, tableAfter, answerFor, sideAsked, cornerAsked, counted};
+ghost use Rattle.plan.specs.Calls.{outcomeNumber, enterNumber, placeNumber, carriedAt};
+ghost use Rattle.plan.specs.Calls.{sideAskedNumber, sideCarried, askSideNumber};
+ghost use Rattle.plan.specs.Calls.{cornerAskedNumber, cornerCarried, askCornerNumber};
 
 // Enters one site at the end: tests 2, 3, then 7, 4, 5.
 pub fn enter(plan: Plan, name: &[u8], x: u64, y: u64) -> Planned
     requires { ⌜ Valid plan ⌝ }
     ensures answer { λ r. ⌜ r ≡ enteredIn plan (now (name .entry)) x y ⌝ }
     ensures valid { λ r. ⌜ Valid (r .plan) ⌝ }
+    ensures number { λ r. ⌜ outcomeNumber (r .outcome) ≡ enterNumber (sitesIn plan) (now (name .entry)) x y ⌝ }
 {
     let read = name_from(name);
     if !read.ok {
@@ -45,6 +50,7 @@ pub fn place(plan: Plan, table: &mut [u8]) -> Planned
     ensures answer { λ r. ⌜ r ≡ placedIn plan (now (table .entry)) ⌝ }
     ensures table { λ r. ⌜ now (table .exit) ≡ tableAfter plan (now (table .entry)) ⌝ }
     ensures valid { λ r. ⌜ Valid (r .plan) ⌝ }
+    ensures number { λ r. ⌜ outcomeNumber (r .outcome) ≡ placeNumber plan (now (table .entry)) ⌝ }
 {
     let n = plan.count;
     if n == 0 {
@@ -75,7 +81,9 @@ pub fn place(plan: Plan, table: &mut [u8]) -> Planned
 // The side of the answer: test 9.
 pub fn side(plan: Plan) -> AskedSide
     requires { ⌜ Valid plan ⌝ }
-    ensures { λ r. ⌜ r ≡ sideAsked plan ⌝ }
+    ensures answer { λ r. ⌜ r ≡ sideAsked plan ⌝ }
+    ensures number { λ r. ⌜ sideAskedNumber r ≡ askSideNumber plan ⌝ }
+    ensures value { λ r. ⌜ sideCarried r ≡ carriedAt (askSideNumber plan) (answerFor plan .side) ⌝ }
 {
     if !plan.placed {
         return AskedSide::NoSide(Refusal::NotPlaced);
@@ -87,7 +95,9 @@ pub fn side(plan: Plan) -> AskedSide
 // The corner of site number `i`: tests 9, 6.
 pub fn corner(plan: Plan, i: usize) -> AskedCorner
     requires { ⌜ Valid plan ⌝ }
-    ensures { λ r. ⌜ r ≡ cornerAsked plan i ⌝ }
+    ensures answer { λ r. ⌜ r ≡ cornerAsked plan i ⌝ }
+    ensures number { λ r. ⌜ cornerAskedNumber r ≡ askCornerNumber plan i ⌝ }
+    ensures value { λ r. ⌜ cornerCarried r ≡ carriedAt (askCornerNumber plan i) (cornerAt (answerFor plan .corners) i) ⌝ }
 {
     if !plan.placed {
         return AskedCorner::NoCorner(Refusal::NotPlaced);

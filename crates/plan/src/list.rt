@@ -16,11 +16,11 @@ ghost use lib.ListN.{length, drop};
 ghost use Rattle.plan.specs.Text.{firstLine};
 ghost use Rattle.plan.specs.List.{enteredFields, enteredLine};
 ghost use Rattle.plan.specs.Plan.{sitesIn, Valid};
-ghost use Rattle.plan.specs.Calls.{plannedOr, readFrom};
+ghost use Rattle.plan.specs.Calls.{plannedOr, readFrom, outcomeNumber, readNumber};
 ghost use Rattle.plan.specs.Line.{lineEnd, FieldEnd};
 
 // Where a line ends: the place of its line feed, if it has one in time.
-pub enum LineEnd {
+pub(crate) enum LineEnd {
     At(usize),
     Missing,
 }
@@ -105,6 +105,7 @@ fn enter_line(plan: Plan, line: &[u8]) -> Planned
 pub fn read(text: &[u8]) -> Planned
     ensures answer { λ r. ⌜ r ≡ readFrom (now (text .entry)) ⌝ }
     ensures valid { λ r. ⌜ Valid (r .plan) ⌝ }
+    ensures number { λ r. ⌜ outcomeNumber (r .outcome) ≡ readNumber (now (text .entry)) ⌝ }
 {
     let mut plan = Plan::start();
     let mut at = 0;

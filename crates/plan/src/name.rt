@@ -11,14 +11,14 @@ pub struct Name {
 }
 
 // A name, where the bytes read are one; else a name of no bytes.
-pub struct NameRead {
+pub(crate) struct NameRead {
     pub ok: bool,
     pub name: Name,
 }
 
 impl Name {
     // The name of an empty slot.
-    pub fn none() -> Name
+    pub(crate) fn none() -> Name
         ensures { λ r. ⌜ r ≡ noName ⌝ }
     {
         Name {
@@ -47,7 +47,7 @@ fn is_name_byte(b: u8) -> bool
 }
 
 // The name that a text is, if it is one.
-pub fn name_from(text: &[u8]) -> NameRead
+pub(crate) fn name_from(text: &[u8]) -> NameRead
     ensures { λ r. ⌜ r ≡ nameRead (now (text .entry)) ⌝ }
 {
     let n = text.len();
@@ -79,7 +79,7 @@ pub fn name_from(text: &[u8]) -> NameRead
 }
 
 // Whether two names are the same.
-pub fn same_name(a: Name, b: Name) -> bool
+pub(crate) fn same_name(a: Name, b: Name) -> bool
     requires { ⌜ (a .len ≤ 8) × (b .len ≤ 8) ⌝ }
     ensures { λ r. ⌜ r ≡ sameBytes (bytesOf a) (bytesOf b) ⌝ }
 {

@@ -2,18 +2,18 @@
 use placing::units::Limits;
 use placing::units::Units;
 ghost use mathlib.Core.Path.{_≡_};
-ghost use Rattle.plan.specs.Number.{coordinateIn, digitsAfter, inRange};
+ghost use Rattle.plan.specs.Number.{coordinateIn, digitsAfter, asCoordinate};
 ghost use Rattle.plan.specs.Coordinate.{coordinateRead};
 
 // A coordinate, where the text is one.
-pub enum Coordinate {
+pub(crate) enum Coordinate {
     At(Units),
     Nowhere,
 }
 
 // The number that the digits of a text write, up to the greatest coordinate.
 fn digits_from(text: &[u8]) -> Coordinate
-    ensures { λ r. ⌜ r ≡ coordinateRead (inRange (digitsAfter 0 (now (text .entry)))) ⌝ }
+    ensures { λ r. ⌜ r ≡ coordinateRead (asCoordinate (digitsAfter 0 (now (text .entry)))) ⌝ }
 {
     let mut value = 0u32;
     for i in 0..text.len() {
@@ -33,7 +33,7 @@ fn digits_from(text: &[u8]) -> Coordinate
 }
 
 // The coordinate that a text writes, in decimal digits with no leading zero.
-pub fn coordinate_from(text: &[u8]) -> Coordinate
+pub(crate) fn coordinate_from(text: &[u8]) -> Coordinate
     ensures { λ r. ⌜ r ≡ coordinateRead (coordinateIn (now (text .entry))) ⌝ }
 {
     if text.len() == 0 {

@@ -10,7 +10,9 @@ use crate::refusal::Refusal;
 use crate::refusal::number_of;
 use crate::sheet::write;
 ghost use mathlib.Core.Path.{_≡_};
-ghost use Rattle.plan.specs.Output.{outputWritten, outputAfter, refusalWritten, refusalAfter};
+ghost use lib.ListN.{length};
+ghost use Rattle.plan.specs.Calls.{writtenNumber, writtenLength, carriedAt};
+ghost use Rattle.plan.specs.Output.{outputOf, outputWritten, outputNumber, outputAfter, refusalWritten, refusalAfter};
 ghost use Rattle.plan.specs.Demands.{SheetFor};
 
 // Writes the word refused, a tab, the number and a line feed, where there is room.
@@ -35,6 +37,9 @@ pub fn output(text: &[u8], buffer: &mut [u8]) -> Written
     ensures answer { λ r. ⌜ r ≡ outputWritten (now (text .entry)) (now (buffer .entry)) ⌝ }
     ensures buffer { λ r. ⌜ now (buffer .exit) ≡ outputAfter (now (text .entry)) (now (buffer .entry)) ⌝ }
     ensures demands { λ r. ⌜ SheetFor (now (text .entry)) r (now (buffer .exit)) ⌝ }
+    ensures number { λ r. ⌜ writtenNumber r ≡ outputNumber (now (text .entry)) (now (buffer .entry)) ⌝ }
+    ensures value { λ r. ⌜ writtenLength r
+        ≡ carriedAt (outputNumber (now (text .entry)) (now (buffer .entry))) (length (outputOf (now (text .entry)))) ⌝ }
 {
     let listed = read(text);
     let reading = listed.outcome;

@@ -16,7 +16,7 @@ ghost use Rattle.plan.specs.Name.{isName, bytesOf, nameOf};
 ghost use Rattle.plan.specs.Enter.{appended};
 ghost use Rattle.plan.specs.Plan.{sitesIn, Valid};
 ghost use Rattle.plan.specs.Calls.{started, plannedOr};
-ghost use Rattle.plan.specs.Taken.{NamesHeld, namesTaken, placesTaken, siteOf};
+ghost use Rattle.plan.specs.Taken.{ShortNames, namesTaken, placesTaken, siteOf};
 
 // Slots past the count hold nothing: a name of no bytes, the place 0, 0 and corner 0. While a plan is not placed, its side is
 // free and its corners are 0.
@@ -76,7 +76,7 @@ impl Plan {
 }
 
 // A refusal, with the plan as it came.
-pub fn refuse(plan: Plan, why: Refusal) -> Planned
+pub(crate) fn refuse(plan: Plan, why: Refusal) -> Planned
     ensures { λ r. ⌜ r ≡ record { outcome = Outcome.Refused why; plan = plan } ⌝ }
 {
     let outcome = Outcome::Refused(why);
@@ -85,7 +85,7 @@ pub fn refuse(plan: Plan, why: Refusal) -> Planned
 
 // Whether one of the first `n` names is this one.
 fn name_taken(names: [Name; 240], n: usize, name: Name) -> bool
-    requires { ⌜ (n ≤ 240) × NamesHeld n names × (name .len ≤ 8) ⌝ }
+    requires { ⌜ (n ≤ 240) × ShortNames n names × (name .len ≤ 8) ⌝ }
     ensures { λ r. ⌜ r ≡ namesTaken n names (bytesOf name) ⌝ }
 {
     for i in 0..n {
@@ -114,7 +114,7 @@ fn place_taken(places: [Place; 240], n: usize, place: Place) -> bool
 }
 
 // The plan with one site more: tests 7, 4, 5. The plan is not placed afterwards.
-pub fn append(plan: Plan, name: Name, place: Place) -> Planned
+pub(crate) fn append(plan: Plan, name: Name, place: Place) -> Planned
     requires { ⌜ Valid plan × (name ≡ nameOf (bytesOf name)) × (isName (bytesOf name) ≡ true) × OnPlan place ⌝ }
     ensures answer { λ r. ⌜ r ≡ plannedOr plan (appended (sitesIn plan) (siteOf name place)) ⌝ }
     ensures valid { λ r. ⌜ Valid (r .plan) ⌝ }

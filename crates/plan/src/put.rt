@@ -9,7 +9,7 @@ ghost use Rattle.plan.specs.Name.{bytesOf};
 ghost use Rattle.plan.specs.Put.{Put};
 
 // One byte.
-pub fn put_byte(out: &mut [u8], at: usize, b: u8) -> usize
+pub(crate) fn put_byte(out: &mut [u8], at: usize, b: u8) -> usize
     requires { ⌜ at < length (now out) ⌝ }
     ensures { λ r. ⌜ Put (now (out .entry)) at (b ∷ []) r (now (out .exit)) ⌝ }
 {
@@ -18,7 +18,7 @@ pub fn put_byte(out: &mut [u8], at: usize, b: u8) -> usize
 }
 
 // The first `n` bytes of a text.
-pub fn put_bytes(out: &mut [u8], at: usize, text: &[u8], n: usize) -> usize
+pub(crate) fn put_bytes(out: &mut [u8], at: usize, text: &[u8], n: usize) -> usize
     requires { ⌜ (n ≤ length (now text)) × (at + n ≤ length (now out)) ⌝ }
     ensures { λ r. ⌜ Put (now (out .entry)) at (take n (now (text .entry))) r (now (out .exit)) ⌝ }
 {
@@ -29,7 +29,7 @@ pub fn put_bytes(out: &mut [u8], at: usize, text: &[u8], n: usize) -> usize
 }
 
 // The bytes of a name.
-pub fn put_name(out: &mut [u8], at: usize, name: Name) -> usize
+pub(crate) fn put_name(out: &mut [u8], at: usize, name: Name) -> usize
     requires { ⌜ (name .len ≤ 8) × (at + name .len ≤ length (now out)) ⌝ }
     ensures { λ r. ⌜ Put (now (out .entry)) at (bytesOf name) r (now (out .exit)) ⌝ }
 {
@@ -39,7 +39,7 @@ pub fn put_name(out: &mut [u8], at: usize, name: Name) -> usize
 }
 
 // A number in decimal: the digits of its tenth part, then its last digit.
-pub fn put_decimal(out: &mut [u8], at: usize, n: u32) -> usize
+pub(crate) fn put_decimal(out: &mut [u8], at: usize, n: u32) -> usize
     requires { ⌜ (n < 1000000) × (at + length (decimal n) ≤ length (now out)) ⌝ }
     ensures { λ r. ⌜ Put (now (out .entry)) at (decimal n) r (now (out .exit)) ⌝ }
 {

@@ -17,16 +17,17 @@ ghost use Rattle.placing.specs.Units.{OnPlan};
 ghost use Rattle.placing.specs.Corner.{Corner};
 ghost use Rattle.plan.specs.Sheet.{sheetOf};
 ghost use Rattle.plan.specs.Plan.{sitesIn, Valid};
-ghost use Rattle.plan.specs.Calls.{written, bufferAfter};
+ghost use Rattle.plan.specs.Site.{placesOf};
+ghost use Rattle.plan.specs.Calls.{written, bufferAfter, writtenNumber, writtenLength, writeNumber, carriedAt};
 ghost use Rattle.plan.specs.Taken.{siteOf};
 ghost use Rattle.plan.specs.Put.{Put};
-ghost use Rattle.plan.specs.SheetParts.{sideLine, siteLine, SideSmall};
-ghost use Rattle.plan.specs.Demands.{NoRivalIn};
+ghost use Rattle.plan.specs.SheetParts.{sideLineEnded, siteLineEnded, SideSmall};
+ghost use Rattle.plan.specs.Demands.{NoRivalIn, ReadsOffIn};
 
 // The first line: the word side, a tab and the side.
 fn put_side(out: &mut [u8], side: Side) -> usize
     requires { ⌜ SideSmall side × (11 ≤ length (now out)) ⌝ }
-    ensures { λ r. ⌜ Put (now (out .entry)) 0 (sideLine side) r (now (out .exit)) ⌝ }
+    ensures { λ r. ⌜ Put (now (out .entry)) 0 (sideLineEnded side) r (now (out .exit)) ⌝ }
 {
     let word = put_bytes(out, 0, b"side\t", 5);
     let end = match side {
@@ -39,7 +40,7 @@ fn put_side(out: &mut [u8], side: Side) -> usize
 // The line of a site: name, x, y, corner.
 fn put_site(out: &mut [u8], at: usize, name: Name, place: Place, corner: u8) -> usize
     requires { ⌜ (name .len ≤ 8) × OnPlan place × Corner corner × (at + 23 ≤ length (now out)) ⌝ }
-    ensures { λ r. ⌜ Put (now (out .entry)) at (siteLine (siteOf name place) corner) r (now (out .exit)) ⌝ }
+    ensures { λ r. ⌜ Put (now (out .entry)) at (siteLineEnded (siteOf name place) corner) r (now (out .exit)) ⌝ }
 {
     let after_name = put_name(out, at, name);
     let from_x = put_byte(out, after_name, 9);
@@ -72,6 +73,9 @@ pub fn write(plan: Plan, buffer: &mut [u8]) -> Written
     ensures answer { λ r. ⌜ r ≡ written plan (now (buffer .entry)) ⌝ }
     ensures buffer { λ r. ⌜ now (buffer .exit) ≡ bufferAfter plan (now (buffer .entry)) ⌝ }
     ensures rivals { λ r. ⌜ NoRivalIn r (now (buffer .exit)) ⌝ }
+    ensures reads { λ r. ⌜ ReadsOffIn (placesOf (sitesIn plan)) r (now (buffer .exit)) ⌝ }
+    ensures number { λ r. ⌜ writtenNumber r ≡ writeNumber plan (now (buffer .entry)) ⌝ }
+    ensures value { λ r. ⌜ writtenLength r ≡ carriedAt (writeNumber plan (now (buffer .entry))) (length (sheetOf (sitesIn plan))) ⌝ }
 {
     if !plan.placed {
         return Written::NotWritten(Refusal::NotPlaced);

@@ -43,7 +43,7 @@ loop-less : tie.Need-loop-less Inv-loop μ-loop
 loop-less c = search needs
 
 loop-again : tie.Need-loop-again Inv-loop μ-loop
-loop-again c = (omega arith, c .before .enter .ensures .1)
+loop-again c = (omega arith, c .before .enter .ensures .1 .0)
 
 returns : tie.Need-returns Inv-loop μ-loop
 returns c = c .before .loop .inv .1

@@ -10,6 +10,7 @@ use Rattle.plan.specs.Site.{placeAt}
 use Rattle.plan.specs.Enter.{appended}
 use Rattle.plan.specs.Plan.{sitesIn}
 use Rattle.plan.specs.Calls.{plannedOr}
+use Rattle.plan.specs.Numbers.{enter-told}
 use Rattle.plan.specs.CallLaws.{
   refuses,
   entered-unnamed,
@@ -46,9 +47,9 @@ returns c =
     let read = c .before .before .before in
     let start = read .before .before in
     let name = now (start .args .name) in
-    refuses (start .pre) (c .refuse .ensures)
+    enter-told (start .args .plan) (now (start .args .name)) (start .args .x) (start .args .y) (refuses (start .pre) (c .refuse .ensures)
     (entered-unnamed (sitesIn (start .args .plan)) name (start .args .x) (start .args .y)
-    (read-ok name (read .name-from .ensures) ∙ not-true (read .name-from .result .ok) (c .before .if1 .taken)))
+    (read-ok name (read .name-from .ensures) ∙ not-true (read .name-from .result .ok) (c .before .if1 .taken))))
 
 cast-if2 : tie.Need-cast-if2
 cast-if2 c = search needs
@@ -60,9 +61,9 @@ returns-2 : tie.Need-returns-2
 returns-2 c =
     let first = c .before .before in
     let start = first .before .before .before .before in
-    refuses (start .pre) (c .refuse2 .ensures)
+    enter-told (start .args .plan) (now (start .args .name)) (start .args .x) (start .args .y) (refuses (start .pre) (c .refuse2 .ensures)
     (entered-far-x (sitesIn (start .args .plan)) (now (start .args .name)) (start .args .x) (start .args .y) (is-name first)
-    (c .before .if2 .taken))
+    (c .before .if2 .taken)))
 
 cast-if3 : tie.Need-cast-if3
 cast-if3 c = search needs
@@ -75,9 +76,9 @@ returns-3 c =
     let second = c .before .before in
     let first = second .before in
     let start = first .before .before .before .before in
-    refuses (start .pre) (c .refuse3 .ensures)
+    enter-told (start .args .plan) (now (start .args .name)) (start .args .x) (start .args .y) (refuses (start .pre) (c .refuse3 .ensures)
     (entered-far-y (sitesIn (start .args .plan)) (now (start .args .name)) (start .args .x) (start .args .y) (is-name first)
-    (second .if2 .left) (c .before .if3 .taken))
+    (second .if2 .left) (c .before .if3 .taken)))
 
 cast-t12 : tie.Need-cast-t12
 cast-t12 c = search needs
@@ -105,7 +106,8 @@ returns-4 c =
     let start = first .before .before .before .before in
     let plan = start .args .plan in
     let x = start .args .x in
-    let y = start .args .y in (
+    let y = start .args .y in
+    enter-told plan (now (start .args .name)) x y (
       c .append .ensures .0
           ∙ ap
           (plannedOr plan)

@@ -7,7 +7,8 @@ use Rattle.plan.specs.declared.number.Coordinate.the-variants.{At}
 use Rattle.plan.specs.Number.{coordinateIn}
 use Rattle.plan.specs.Coordinate.{coordinateRead}
 use Rattle.plan.specs.Name.{nameOf, isName}
-use Rattle.plan.specs.FieldLaws.{refusal-answers, call-answers, coordinate-on, NamedAs, name-tested, name-read}
+use Rattle.plan.specs.CallLaws.{refuses, read-ok}
+use Rattle.plan.specs.FieldLaws.{call-answers, coordinate-on, NamedAs, name-read}
 use Rattle.plan.specs.FieldLaws.{fields-unnamed, fields-no-x, fields-no-y, fields-appended}
 use Rattle.plan.proofs.list.enter_fields.Statement.{statement}
 use Rattle.plan.proofs.list.enter_fields.Tie as tie
@@ -44,8 +45,8 @@ refuse-requires c κs = search needs
 returns : tie.Need-returns
 returns c =
     let read = c .before .before .before in
-    refusal-answers (read .before .before .before .before .pre) (c .refuse .ensures)
-    (fields-unnamed _ _ _ _ (name-tested _ _ (read .name-from .ensures) ∙ not-true _ (c .before .if1 .taken)))
+    refuses (read .before .before .before .before .pre) (c .refuse .ensures)
+    (fields-unnamed _ _ _ _ (read-ok _ (read .name-from .ensures) ∙ not-true _ (c .before .if1 .taken)))
 
 coordinate-from-requires : tie.Need-coordinate-from-requires
 coordinate-from-requires c κs = search needs
@@ -63,7 +64,7 @@ returns-2 : tie.Need-returns-2
 returns-2 c =
     let read-x = c .before .before .before in
     let named = read-x .before in
-    refusal-answers (start-of named .pre) (c .refuse2 .ensures)
+    refuses (start-of named .pre) (c .refuse2 .ensures)
     (fields-no-x _ _ _ _ (named-at named .named) (sym (read-x .coordinate-from .ensures) ∙ c .before .enum-told .given .1))
 
 coordinate-from-requires-2 : tie.Need-coordinate-from-requires-2
@@ -83,7 +84,7 @@ returns-3 c =
     let read-y = c .before .before .before in
     let across = read-y .before in
     let named = named-of across in
-    refusal-answers (start-of named .pre) (c .refuse3 .ensures)
+    refuses (start-of named .pre) (c .refuse3 .ensures)
     (fields-no-y _ _ _ _ (named-at named .named) _ (x-at across) (sym (read-y .coordinate-from2 .ensures) ∙ c .before .enum-told2 .given .1))
 
 append-requires : tie.Need-append-requires

@@ -2,7 +2,8 @@
 use mathlib.Core.Path.{sym}
 use lib.Seq.{length-take-le}
 use borrow.Author.Needs.{needs}
-use Rattle.plan.specs.FieldLaws.{refusal-answers, call-answers}
+use Rattle.plan.specs.CallLaws.{refuses}
+use Rattle.plan.specs.FieldLaws.{call-answers}
 use Rattle.plan.specs.LineLaws.{line-of-one, line-of-two, line-of-three, line-of-four}
 use Rattle.plan.proofs.list.enter_line.Statement.{statement}
 use Rattle.plan.proofs.list.enter_line.Tie as tie
@@ -16,7 +17,7 @@ refuse-requires c κs = search needs
 returns : tie.Need-returns
 returns c =
     let at-first = c .before .before in
-    refusal-answers (at-first .before .before .pre) (c .refuse .ensures) (line-of-one _ (at-first .field-end .ensures) (c .before .if1 .taken))
+    refuses (at-first .before .before .pre) (c .refuse .ensures) (line-of-one _ (at-first .field-end .ensures) (c .before .if1 .taken))
 
 add-from-x : tie.Need-add-from-x
 add-from-x c = search needs
@@ -31,7 +32,7 @@ returns-2 : tie.Need-returns-2
 returns-2 c =
     let at-second = c .before .before in
     let at-first = at-second .before .before in
-    refusal-answers (at-first .before .before .pre) (c .refuse2 .ensures)
+    refuses (at-first .before .before .pre) (c .refuse2 .ensures)
     (line-of-two _ (at-first .field-end .ensures) (at-second .before .if1 .left) (at-second .field-end2 .ensures) (c .before .if2 .taken))
 
 add-from-y : tie.Need-add-from-y
@@ -48,7 +49,7 @@ returns-3 c =
     let at-third = c .before .before in
     let at-second = at-third .before .before in
     let at-first = at-second .before .before in
-    refusal-answers (at-first .before .before .pre) (c .refuse3 .ensures)
+    refuses (at-first .before .before .pre) (c .refuse3 .ensures)
     (line-of-four _ (at-first .field-end .ensures) (at-second .before .if1 .left) (at-second .field-end2 .ensures)
     (at-third .before .if2 .left) (at-third .field-end3 .ensures) (c .before .if3 .taken))
 

@@ -7,6 +7,7 @@ use lib.ListN.{length}
 use borrow.Author.Needs.{needs}
 use Rattle.plan.specs.Reading.{LineAt, line-found, refused-for, accepted-as, Reading, reading-starts, reading-valid, reading-missing}
 use Rattle.plan.specs.Reading.{reading-refused, reading-on, reading-ends, reading-answers}
+use Rattle.plan.specs.Numbers.{read-told}
 use Rattle.plan.proofs.list.read.Statement.{statement}
 use Rattle.plan.proofs.list.read.Tie as tie
 
@@ -50,8 +51,8 @@ returns : tie.Need-returns Inv-loop μ-loop
 returns c =
     let at-line = c .before .before .before .before in
     let turn = at-line .before in
-    reading-answers _ (c .before .start2 .ensures) (c .refuse .ensures)
-    (reading-missing (turn .before .loop .inv) (turn .loop-test .taken) (sym (c .before .before .enum-told .given .1) ∙ at-line .line-end .ensures))
+    read-told _ (reading-answers _ (c .before .start2 .ensures) (c .refuse .ensures)
+    (reading-missing (turn .before .loop .inv) (turn .loop-test .taken) (sym (c .before .before .enum-told .given .1) ∙ at-line .line-end .ensures)))
 
 sub-enter-line : tie.Need-sub-enter-line Inv-loop μ-loop
 sub-enter-line c = omega (arith, found-at c)
@@ -79,9 +80,9 @@ returns-2 c =
     let entered = c .before .before .before .before .before in
     let line = entered .before .before in
     let turn = turn-of line in
-    reading-answers _ (c .before .start3 .ensures) (c .refuse2 .ensures)
+    read-told _ (reading-answers _ (c .before .start3 .ensures) (c .refuse2 .ensures)
     (reading-refused (turn .before .loop .inv) (turn .loop-test .taken) _ (found-at line)
-    (refused-for _ (entered .enter-line .ensures .0) (c .before .before .before .outcome .given .1)))
+    (refused-for _ (entered .enter-line .ensures .0) (c .before .before .before .outcome .given .1))))
 
 enum-told-2 : tie.Need-enum-told-2 Inv-loop μ-loop
 enum-told-2 c = search needs
@@ -101,7 +102,7 @@ loop-again c =
     (accepted-as _ (entered .enter-line .ensures .0) (c .before .enum-told2 .given .1))
 
 returns-3 : tie.Need-returns-3 Inv-loop μ-loop
-returns-3 c = (reading-ends (c .before .loop .inv) (c .loop-test .left), reading-valid (c .before .loop .inv))
+returns-3 c = read-told _ (reading-ends (c .before .loop .inv) (c .loop-test .left), reading-valid (c .before .loop .inv))
 
 pub read-spec : {M : Type 1} → statement M
 read-spec =

@@ -5,7 +5,7 @@ use Prim.Native.Nat.{_+_, _-_, _*_, _≤_}
 use native.Mathlib.Omega.{arith}
 use lib.ListN.{length, getD, drop}
 use borrow.Author.Needs.{needs}
-use Rattle.plan.specs.Number.{digitsAfter, inRange}
+use Rattle.plan.specs.Number.{digitsAfter, asCoordinate}
 use Rattle.plan.specs.NumberLaws.{digit-at, low-at, high-at, end-at, in-range, beyond-stays}
 use Rattle.plan.specs.Coordinate.{coordinateRead}
 use Rattle.plan.proofs.number.digits_from.Statement.{statement}
@@ -28,13 +28,13 @@ returns : tie.Need-returns Inv-loop μ-loop
 returns c =
     let at-loop = c .before .before .before in
     let none-here = low-at (at-loop .loop .value) (at-loop .before .args .text .now) (at-loop .loop .i) (omega arith) (c .if1 .taken) in
-    sym (ap coordinateRead (ap inRange (at-loop .loop .inv .3 ∙ none-here)))
+    sym (ap coordinateRead (ap asCoordinate (at-loop .loop .inv .3 ∙ none-here)))
 
 returns-2 : tie.Need-returns-2 Inv-loop μ-loop
 returns-2 c =
     let at-loop = c .before .before .before .before in
     let none-here = high-at (at-loop .loop .value) (at-loop .before .args .text .now) (at-loop .loop .i) (omega arith) (c .if2 .taken) in
-    sym (ap coordinateRead (ap inRange (at-loop .loop .inv .3 ∙ none-here)))
+    sym (ap coordinateRead (ap asCoordinate (at-loop .loop .inv .3 ∙ none-here)))
 
 mul-value : tie.Need-mul-value Inv-loop μ-loop
 mul-value c = omega arith
@@ -65,7 +65,7 @@ returns-3 c =
     let text = at-loop .before .args .text .now in
     let i = at-loop .loop .i in
     let beyond = beyond-stays (at-loop .loop .value * 10 + (getD text i 0 - 48)) (drop (i + 1) text) (c .if3 .taken) in
-    sym (ap coordinateRead (ap inRange (digit (c .before)) ∙ beyond))
+    sym (ap coordinateRead (ap asCoordinate (digit (c .before)) ∙ beyond))
 
 add-i : tie.Need-add-i Inv-loop μ-loop
 add-i c = omega arith
@@ -81,7 +81,7 @@ returns-4 c =
     let at-loop = c .before in
     let value = at-loop .loop .value in
     let all = at-loop .loop .inv .3 ∙ end-at value (at-loop .before .args .text .now) (at-loop .loop .i) (omega arith) in
-    sym (ap coordinateRead (ap inRange all ∙ in-range value (at-loop .loop .inv .2)))
+    sym (ap coordinateRead (ap asCoordinate all ∙ in-range value (at-loop .loop .inv .2)))
 
 pub digits-from-spec : {M : Type 1} → statement M
 digits-from-spec =

@@ -5,7 +5,7 @@ use mathlib.Core.List.{List}
 use Prim.Native.Nat.{ℕ}
 use lib.ListN.{replicate, length-replicate}
 use denote.Ref.{now}
-use Rattle.plan.specs.Filling.{filled-demands, read-refused, place-refused, place-done, refusal-filled, sheet-filled}
+use Rattle.plan.specs.Filling.{filled-output, read-refused, place-refused, place-done, refusal-filled, sheet-filled}
 use Rattle.plan.proofs.output.output.Statement.{statement}
 use Rattle.plan.proofs.output.output.Tie as tie
 
@@ -35,7 +35,7 @@ returns c =
     (read-refused (now (start .args .text)) (refused .0 .0) (listed .read .ensures .0) (refused .1))
     (c .before .before .write-refusal .ensures .0) (c .before .before .write-refusal .ensures .1)
     in
-    (filled .answer-is, (filled .after-is, filled-demands filled))
+    filled-output (now (start .args .text)) filled
 
 enum-told : tie.Need-enum-told
 enum-told c = search needs
@@ -68,7 +68,7 @@ returns-2 c =
     (read-done .enum-told .given .1) (placed .place .ensures .0) (refused .1))
     (c .before .before .write-refusal2 .ensures .0) (c .before .before .write-refusal2 .ensures .1)
     in
-    (filled .answer-is, (filled .after-is, filled-demands filled))
+    filled-output (now (start .args .text)) filled
 
 enum-told-2 : tie.Need-enum-told-2
 enum-told-2 c = search needs
@@ -92,7 +92,7 @@ returns-3 c =
     (read-done .enum-told .given .1) (placed .place .ensures .0) (place-told .enum-told2 .given .1))
     (c .before .before .write .ensures .0) (c .before .before .write .ensures .1 .0)
     in
-    (filled .answer-is, (filled .after-is, filled-demands filled))
+    filled-output (now (start .args .text)) filled
 
 pub output-spec : {M : Type 1} → statement M
 output-spec =

@@ -7,7 +7,8 @@ use lib.ListN.{take}
 use mathlib.Core.Bool.{false}
 use borrow.Author.Needs.{needs}
 use Rattle.plan.specs.Name.{bytesOf}
-use Rattle.plan.specs.TakenLaws.{among, among-more, among-one, isNamed, name-among, held-short}
+use Rattle.plan.specs.Site.{among}
+use Rattle.plan.specs.TakenLaws.{among-more, among-one, isNamed, name-among, held-short}
 use Rattle.plan.proofs.plan.name_taken.Statement.{statement}
 use Rattle.plan.proofs.plan.name_taken.Tie as tie
 

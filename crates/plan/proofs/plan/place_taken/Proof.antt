@@ -8,7 +8,8 @@ use mathlib.Core.Path.{_≡_, refl, sym, _∙_}
 use mathlib.Core.Logic.{⊎-elim}
 use mathlib.Core.Bool.{false}
 use borrow.Author.Needs.{needs}
-use Rattle.plan.specs.TakenLaws.{among, among-more, among-one, isAt, place-among, is-at, other-x, other-y}
+use Rattle.plan.specs.Site.{among}
+use Rattle.plan.specs.TakenLaws.{among-more, among-one, isAt, place-among, is-at, other-x, other-y}
 use Rattle.plan.proofs.plan.place_taken.Statement.{statement}
 use Rattle.plan.proofs.plan.place_taken.Tie as tie
 

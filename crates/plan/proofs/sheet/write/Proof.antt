@@ -11,7 +11,8 @@ use denote.Ref.{now}
 use Rattle.plan.specs.Sheet.{sheetOf, sheet-longest}
 use Rattle.plan.specs.Plan.{sitesIn}
 use Rattle.plan.specs.PutLaws.{put-length}
-use Rattle.plan.specs.Filling.{filled-short, filled-copied, filled-written, filled-no-rival, valid-listed}
+use Rattle.plan.specs.Numbers.{write-told}
+use Rattle.plan.specs.Filling.{filled-short, filled-copied, filled-written, filled-no-rival, filled-reads, valid-listed}
 use Rattle.plan.proofs.sheet.write.Statement.{statement}
 use Rattle.plan.proofs.sheet.write.Tie as tie
 
@@ -24,7 +25,7 @@ sheet-fits : (c : tie.Start) → length (sheetOf (sitesIn (c .args .plan))) ≤ 
 sheet-fits c = sheet-longest (sitesIn (c .args .plan)) (valid-listed (c .pre))
 
 returns : tie.Need-returns
-returns c = rw (not-true (c .before .before .before .args .plan .placed) (c .if1 .taken)) (refl, (refl, tt))
+returns c = rw (not-true (c .before .before .before .args .plan .placed) (c .if1 .taken)) (refl, (refl, (tt, (tt, (refl, refl)))))
 
 slice-aggregate-compose : tie.Need-slice-aggregate-compose
 slice-aggregate-compose c = search needs
@@ -39,7 +40,7 @@ returns-2 c =
     let short = filled-short (sheetOf (sitesIn (start .args .plan))) (now (start .args .buffer))
     (omega (arith, c .if2 .taken, composed .compose .ensures .next-is)) in
     let is = filled-written (start .args .plan) (is-placed (composed .before .before)) short in
-    (is .0, (is .1, tt))
+    (is .0, (is .1, (tt, (tt, write-told (start .args .plan) (now (start .args .buffer)) (is .0)))))
 
 slice-aggregate-put-bytes : tie.Need-slice-aggregate-put-bytes
 slice-aggregate-put-bytes c = search needs
@@ -62,7 +63,8 @@ returns-3 c =
     let room = c .before .before .before .before .before .if2 .left in
     let filled = filled-copied (composed .compose .ensures) (sheet-fits start) room (c .before .before .put-bytes .ensures) in
     let is = filled-written (start .args .plan) (is-placed (composed .before .before)) filled in
-    (is .0, (is .1, filled-no-rival (start .pre) filled))
+    let told = write-told (start .args .plan) (now (start .args .buffer)) (is .0) in
+    (is .0, (is .1, (filled-no-rival (start .pre) filled, (filled-reads (start .pre) filled, told))))
 
 pub write-spec : {M : Type 1} → statement M
 write-spec =

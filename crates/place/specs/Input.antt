@@ -1,15 +1,8 @@
--- What the functions of the program hand on: bytes that lie within their buffers.
+-- What reading the input promises.
 -- Assumes nothing.
-use mathlib.Core.Path.{_≡_}
-use mathlib.Core.Bool.{Bool, true, false}
 use mathlib.Core.List.{List}
 use Prim.Native.Nat.{ℕ, _≤_}
-use native.Mathlib.Omega.{arith}
-use lib.Dec.{ltb}
-use lib.ListN.{length, drop, length-append}
-use Rattle.plan.specs.Calls.{filledWhere}
-use Rattle.plan.specs.Output.{outputOf, outputWhere, outputWritten, outputAfter}
-use Rattle.plan.specs.declared.plan.Written.{Written}
+use lib.ListN.{length}
 use Rattle.place.specs.declared.Input.{Input}
 use Rattle.place.specs.declared.Input.the-variants.{Bytes, Failed}
 
@@ -17,19 +10,3 @@ use Rattle.place.specs.declared.Input.the-variants.{Bytes, Failed}
 abbrev pub Within : Input → List ℕ → Type 0
 Within (Bytes n) room = n ≤ length room
 Within Failed room = Unit {0}
-
--- The bytes written lie within the buffer.
-abbrev pub WrittenWithin : Written → List ℕ → Type 0
-WrittenWithin (Written.Bytes n) buffer = n ≤ length buffer
-WrittenWithin (Written.NotWritten why) buffer = Unit {0}
-
--- Whatever output is written lies within the buffer afterwards.
-within-filled : (short : Bool) (output buffer : List ℕ)
-    → WrittenWithin (outputWhere short output) (filledWhere (outputWhere short output) output buffer)
-within-filled true output buffer = tt
-within-filled false output buffer = omega (arith, length-append output (drop (length output) buffer))
-
-pub output-within : {written : Written} {after : List ℕ} (text buffer : List ℕ) → written ≡ outputWritten text buffer
-    → after ≡ outputAfter text buffer → WrittenWithin written after
-output-within text buffer is-written is-after =
-    rw (is-written, is-after) (within-filled (ltb (length buffer) (length (outputOf text))) (outputOf text) buffer)

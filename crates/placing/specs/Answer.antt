@@ -152,3 +152,16 @@ answer-found {ps} {h} d l m f n =
 -- A first good choice at 20,001 is the answer's.
 pub answer-free : {ps : List Place} {cs : List ℕ} → Distinct ps → First freeSide ps cs → answerOf ps ≡ unbounded cs
 answer-free d f = sym (is-answer-of d (is-free f))
+
+module _ {ps : List Place} {h : ℕ} {cs : List ℕ} where
+  -- The corners of a numbered answer are a good choice at its side,
+  pub answer-good : IsAnswer ps (numbered h cs) → Good h ps cs
+  answer-good (is-number not-free least most first above) = first .good
+
+  -- and no good choice exists at any greater side.
+  pub answer-none-above : IsAnswer ps (numbered h cs) → (k : ℕ) → h < k → (es : List ℕ) → Good k ps es → ⊥
+  answer-none-above (is-number not-free least most first above) = above
+
+-- The corners of a free answer are a good choice at 20,001.
+pub free-good : {ps : List Place} {cs : List ℕ} → IsAnswer ps (unbounded cs) → Good freeSide ps cs
+free-good (is-free first) = first .good

@@ -37,4 +37,5 @@ pub mod Reading
 pub mod Composing
 pub mod Refusing
 pub mod OutputLaws
+pub mod Within
 pub mod Filling

@@ -6,7 +6,7 @@ use crate::tally::number;
 use plan::calls::count;
 use plan::calls::enter;
 use plan::plan::Plan;
-ghost use Rattle.plan.specs.Plan.{Valid};
+ghost use Rattle.plan.specs.rules.Plan.{Valid};
 
 // The number of the answer where a site is entered into a plan.
 fn entered(plan: Plan, name: &[u8], x: u64, y: u64) -> u64

@@ -3,7 +3,7 @@ use plan::calls::enter;
 use plan::plan::Plan;
 ghost use mathlib.Core.Path.{_≡_};
 ghost use lib.ListN.{length};
-ghost use Rattle.plan.specs.Plan.{Valid};
+ghost use Rattle.plan.specs.rules.Plan.{Valid};
 
 // The last decimal digit of a number.
 fn digit(n: usize) -> u8 {

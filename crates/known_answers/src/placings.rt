@@ -16,7 +16,7 @@ use plan::calls::place;
 use plan::calls::side;
 use plan::plan::Plan;
 use plan::sheet::write;
-ghost use Rattle.plan.specs.Plan.{Valid};
+ghost use Rattle.plan.specs.rules.Plan.{Valid};
 
 // The number of the answer where a plan is placed with this work table.
 fn answer_to(plan: Plan, table: &mut [u8]) -> u64

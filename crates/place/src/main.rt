@@ -5,7 +5,7 @@ use libc::STDOUT_FILENO;
 use plan::output::output;
 use plan::plan::Written;
 ghost use Rattle.place.specs.Input.{Within};
-ghost use Rattle.plan.specs.Within.{WrittenWithin};
+ghost use Rattle.plan.specs.code.Within.{WrittenWithin};
 
 // How many bytes came before the end of the input or of the room, or that a read failed.
 enum Input {

@@ -3,7 +3,7 @@ use placing::units::Limits;
 use placing::units::Place;
 ghost use Prim.Native.Nat.{_<_};
 ghost use Rattle.placed_lists.specs.Ready.{Apart, Fresh, Ready, Where};
-ghost use Rattle.placing.specs.Units.{OnPlan};
+ghost use Rattle.placing.specs.rules.Units.{OnPlan};
 
 // Two places differ.
 fn apart(s: Place, t: Place) -> bool

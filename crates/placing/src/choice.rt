@@ -8,13 +8,13 @@ use crate::trial::try_corner;
 use crate::units::HalfUnits;
 ghost use mathlib.Core.Path.{_≡_};
 ghost use Prim.Native.Nat.{_+_, _<_};
-ghost use Rattle.placing.specs.Choice.{cornerAt};
-ghost use Rattle.placing.specs.Answer.{firstGood};
-ghost use Rattle.placing.specs.Sites.{sitesOf};
-ghost use Rattle.placing.specs.Labels.{labels};
-ghost use Rattle.placing.specs.Ways.{WalkedTo, Kept};
-ghost use Rattle.placing.specs.Asks.{MayWalk, MayChoose};
-ghost use Rattle.placing.specs.Chosen.{choiceIn};
+ghost use Rattle.placing.specs.rules.Choice.{cornerAt};
+ghost use Rattle.placing.specs.rules.Answer.{firstGood};
+ghost use Rattle.placing.specs.code.Sites.{sitesOf};
+ghost use Rattle.placing.specs.search.Labels.{labels};
+ghost use Rattle.placing.specs.code.Ways.{WalkedTo, Kept};
+ghost use Rattle.placing.specs.code.Asks.{MayWalk, MayChoose};
+ghost use Rattle.placing.specs.code.Chosen.{choiceIn};
 
 // The corners of a good choice, where there is one.
 pub(crate) struct Chosen {

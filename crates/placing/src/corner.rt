@@ -1,7 +1,7 @@
 // The corners, numbered as quadrants, and each one's two directions.
 ghost use mathlib.Core.Path.{_≡_};
 ghost use lib.Dec.{eqb};
-ghost use Rattle.placing.specs.Corner.{upWhere, directionsOf, Corner};
+ghost use Rattle.placing.specs.rules.Corner.{upWhere, directionsOf, Corner};
 
 // Which way a label goes from its site: up the axis (to the right, upwards) or down it.
 pub(crate) enum Direction {

@@ -6,10 +6,10 @@ use crate::units::Place;
 use crate::units::Units;
 ghost use mathlib.Core.Path.{_≡_};
 ghost use Prim.Native.Nat.{_<_, max};
-ghost use Rattle.placing.specs.Units.{OnPlan, dist};
-ghost use Rattle.placing.specs.Corner.{Corner};
-ghost use Rattle.placing.specs.Sites.{Held, sitesOf};
-ghost use Rattle.placing.specs.Crowding.{apart, Lowered, Nearer, SiteCrowding, CrowdingIs, judgedFree};
+ghost use Rattle.placing.specs.rules.Units.{OnPlan, dist};
+ghost use Rattle.placing.specs.rules.Corner.{Corner};
+ghost use Rattle.placing.specs.code.Sites.{Held, sitesOf};
+ghost use Rattle.placing.specs.code.Crowding.{apart, Lowered, Nearer, SiteCrowding, CrowdingIs, judgedFree};
 
 // For each corner, a number for each site: at the sides above it the corner is crowded.
 pub(crate) struct Crowding {

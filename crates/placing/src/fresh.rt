@@ -5,7 +5,7 @@ use crate::units::HalfUnits;
 ghost use mathlib.Core.Path.{_≡_};
 ghost use Prim.Native.Nat.{_≤_, _<_};
 ghost use lib.ListN.{length};
-ghost use Rattle.placing.specs.Fresh.{OpenByte, OpenedRow, FreshState};
+ghost use Rattle.placing.specs.code.Fresh.{OpenByte, OpenedRow, FreshState};
 
 // The byte of a corner that is crowded at the sides above `above`: 1, for open, where `side` is not one of them.
 fn is_open(above: u32, side: HalfUnits) -> u8

@@ -6,11 +6,11 @@ use crate::units::HalfUnits;
 use crate::units::Place;
 use crate::units::Units;
 ghost use Prim.Native.Nat.{_≤_};
-ghost use Rattle.placing.specs.Units.{OnAxis, OnPlan, Judged};
-ghost use Rattle.placing.specs.Decides.{Decides};
-ghost use Rattle.placing.specs.Corner.{Corner};
-ghost use Rattle.placing.specs.Meet.{Overlap, Meet};
-ghost use Rattle.placing.specs.Crowd.{Ahead, DoubledCovers};
+ghost use Rattle.placing.specs.rules.Units.{OnAxis, OnPlan, Judged};
+ghost use Rattle.placing.specs.code.Decides.{Decides};
+ghost use Rattle.placing.specs.rules.Corner.{Corner};
+ghost use Rattle.placing.specs.rules.Meet.{Overlap, Meet};
+ghost use Rattle.placing.specs.rules.Crowd.{Ahead, DoubledCovers};
 ghost use Rattle.placing.specs.declared.corner.Direction.the-variants.{Up, Down};
 
 // Two labels that go the same way: they overlap where the side is above the distance.

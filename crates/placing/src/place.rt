@@ -6,8 +6,8 @@ ghost use mathlib.Core.Path.{_≡_};
 ghost use mathlib.Core.List.{_++_};
 ghost use Prim.Native.Nat.{_*_, _≤_};
 ghost use lib.ListN.{length, take, drop, replicate};
-ghost use Rattle.placing.specs.Answer.{answerOf};
-ghost use Rattle.placing.specs.Placed.{placedAs, MayPlace, CoordinatesOf};
+ghost use Rattle.placing.specs.rules.Answer.{answerOf};
+ghost use Rattle.placing.specs.code.Placed.{placedAs, MayPlace, CoordinatesOf};
 
 // The places of a list, an array for each axis: a trial reads single numbers.
 pub(crate) struct Coordinates {

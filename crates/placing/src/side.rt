@@ -9,10 +9,10 @@ ghost use mathlib.Core.Path.{_≡_};
 ghost use mathlib.Core.List.{_++_};
 ghost use Prim.Native.Nat.{_-_, _≤_};
 ghost use lib.ListN.{take, replicate};
-ghost use Rattle.placing.specs.Answer.{answerOf};
-ghost use Rattle.placing.specs.Sites.{sitesOf};
-ghost use Rattle.placing.specs.Ways.{Kept};
-ghost use Rattle.placing.specs.Placed.{placedAs, MayFind, MayBisect};
+ghost use Rattle.placing.specs.rules.Answer.{answerOf};
+ghost use Rattle.placing.specs.code.Sites.{sitesOf};
+ghost use Rattle.placing.specs.code.Ways.{Kept};
+ghost use Rattle.placing.specs.code.Placed.{placedAs, MayFind, MayBisect};
 
 // The placed answer: the side, and the corner of each site in list order, 0 past the last.
 pub struct Placed {

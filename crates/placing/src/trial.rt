@@ -9,10 +9,10 @@ use crate::units::Units;
 ghost use mathlib.Core.Path.{_≡_};
 ghost use Prim.Native.Nat.{ℕ, _≤_, _<_};
 ghost use lib.ListN.{length};
-ghost use Rattle.placing.specs.Corner.{Corner};
-ghost use Rattle.placing.specs.Labels.{labels};
-ghost use Rattle.placing.specs.Ways.{rowAt, LeftIs, Sizes, TakenCorner, ClosedCorner, CarriedThere, CarriedOut, FirstWaiting, Kept, Marked, CarriedOn, Tried};
-ghost use Rattle.placing.specs.Asks.{MayCarryTo, MayCarryOut, MayCarryOn, MayTry};
+ghost use Rattle.placing.specs.rules.Corner.{Corner};
+ghost use Rattle.placing.specs.search.Labels.{labels};
+ghost use Rattle.placing.specs.code.Ways.{rowAt, LeftIs, Sizes, TakenCorner, ClosedCorner, CarriedThere, CarriedOut, FirstWaiting, Kept, Marked, CarriedOn, Tried};
+ghost use Rattle.placing.specs.code.Asks.{MayCarryTo, MayCarryOut, MayCarryOn, MayTry};
 
 // Which corners of a site are open: nothing, one, or more.
 pub(crate) enum Left {

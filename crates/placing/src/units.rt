@@ -1,7 +1,7 @@
 // Coordinates in units, sides in half units, and the one conversion between them.
 ghost use mathlib.Core.Path.{_≡_};
 ghost use Prim.Native.Nat.{_≤_};
-ghost use Rattle.placing.specs.Units.{halves};
+ghost use Rattle.placing.specs.rules.Units.{halves};
 
 // A coordinate, or a distance between two, in units.
 pub struct Units(pub u32);

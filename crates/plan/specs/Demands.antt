@@ -10,18 +10,18 @@ use lib.ListN.{length, take}
 use Rattle.placing.specs.declared.units.HalfUnits.{HalfUnits}
 use Rattle.placing.specs.declared.units.Place.{Place}
 use Rattle.placing.specs.declared.units.Side.the-variants.{Number, Free}
-use Rattle.placing.specs.Choice.{Corners}
-use Rattle.placing.specs.Answer.{Answer, answerOf, IsAnswer}
-use Rattle.placing.specs.Twice.{MeetingPair}
+use Rattle.placing.specs.rules.Choice.{Corners}
+use Rattle.placing.specs.rules.Answer.{Answer, answerOf, IsAnswer}
+use Rattle.placing.specs.theorems.Twice.{MeetingPair}
 use Rattle.plan.specs.declared.plan.Written.{Written}
 use Rattle.plan.specs.declared.plan.Written.the-variants.{Bytes, NotWritten}
-use Rattle.plan.specs.Site.{Site, placesOf}
-use Rattle.plan.specs.Enter.{accepted}
-use Rattle.plan.specs.List.{readList}
-use Rattle.plan.specs.Sheet.{sheetWith, sheetOf}
-use Rattle.plan.specs.Calls.{readNumber}
-use Rattle.plan.specs.ReadOff.{numberOn, spotsOn, carried}
-use Rattle.plan.specs.Output.{numberLine, outputOf}
+use Rattle.plan.specs.rules.Site.{Site, placesOf}
+use Rattle.plan.specs.rules.Enter.{accepted}
+use Rattle.plan.specs.rules.List.{readList}
+use Rattle.plan.specs.rules.Sheet.{sheetWith, sheetOf}
+use Rattle.plan.specs.rules.Calls.{readNumber}
+use Rattle.plan.specs.rules.ReadOff.{numberOn, spotsOn, carried}
+use Rattle.plan.specs.rules.Output.{numberLine, outputOf}
 
 -- A list that is accepted, and has these sites.
 pub record Accepts (text : List ℕ) (sites : List Site) : Type 0 where

@@ -13,12 +13,12 @@ use placing::units::Limits;
 use placing::units::Place;
 use placing::units::Units;
 ghost use mathlib.Core.Path.{_≡_};
-ghost use Rattle.placing.specs.Choice.{cornerAt};
-ghost use Rattle.plan.specs.Plan.{sitesIn, Valid};
-ghost use Rattle.plan.specs.Calls.{enteredIn, placedIn, tableAfter, answerFor, sideAsked, cornerAsked, counted};
-ghost use Rattle.plan.specs.Calls.{outcomeNumber, enterNumber, placeNumber, carriedAt};
-ghost use Rattle.plan.specs.Calls.{sideAskedNumber, sideCarried, askSideNumber};
-ghost use Rattle.plan.specs.Calls.{cornerAskedNumber, cornerCarried, askCornerNumber};
+ghost use Rattle.placing.specs.rules.Choice.{cornerAt};
+ghost use Rattle.plan.specs.rules.Plan.{sitesIn, Valid};
+ghost use Rattle.plan.specs.rules.Calls.{enteredIn, placedIn, tableAfter, answerFor, sideAsked, cornerAsked, counted};
+ghost use Rattle.plan.specs.rules.Calls.{outcomeNumber, enterNumber, placeNumber, carriedAt};
+ghost use Rattle.plan.specs.rules.Calls.{sideAskedNumber, sideCarried, askSideNumber};
+ghost use Rattle.plan.specs.rules.Calls.{cornerAskedNumber, cornerCarried, askCornerNumber};
 
 // Enters one site at the end: tests 2, 3, then 7, 4, 5.
 pub fn enter(plan: Plan, name: &[u8], x: u64, y: u64) -> Planned

@@ -13,11 +13,11 @@ ghost use mathlib.Core.Path.{_≡_};
 ghost use mathlib.Core.List.{[], _∷_};
 ghost use Prim.Native.Nat.{_≤_};
 ghost use lib.ListN.{length, drop};
-ghost use Rattle.plan.specs.Text.{firstLine};
-ghost use Rattle.plan.specs.List.{enteredFields, enteredLine};
-ghost use Rattle.plan.specs.Plan.{sitesIn, Valid};
-ghost use Rattle.plan.specs.Calls.{plannedOr, readFrom, outcomeNumber, readNumber};
-ghost use Rattle.plan.specs.Line.{lineEnd, FieldEnd};
+ghost use Rattle.plan.specs.rules.Text.{firstLine};
+ghost use Rattle.plan.specs.rules.List.{enteredFields, enteredLine};
+ghost use Rattle.plan.specs.rules.Plan.{sitesIn, Valid};
+ghost use Rattle.plan.specs.rules.Calls.{plannedOr, readFrom, outcomeNumber, readNumber};
+ghost use Rattle.plan.specs.code.Line.{lineEnd, FieldEnd};
 
 // Where a line ends: the place of its line feed, if it has one in time.
 pub(crate) enum LineEnd {

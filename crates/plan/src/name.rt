@@ -1,8 +1,8 @@
 // A site's name: 1 to 8 bytes, each A to Z, 0 to 9 or hyphen.
 ghost use mathlib.Core.Path.{_≡_};
 ghost use Prim.Native.Nat.{_≤_};
-ghost use Rattle.plan.specs.Name.{nameByte, sameBytes, bytesOf, nameOf};
-ghost use Rattle.plan.specs.NameRead.{nameRead, noName};
+ghost use Rattle.plan.specs.rules.Name.{nameByte, sameBytes, bytesOf, nameOf};
+ghost use Rattle.plan.specs.code.NameRead.{nameRead, noName};
 
 // The bytes of a name from the front, zeros past them.
 pub struct Name {

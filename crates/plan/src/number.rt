@@ -2,8 +2,8 @@
 use placing::units::Limits;
 use placing::units::Units;
 ghost use mathlib.Core.Path.{_≡_};
-ghost use Rattle.plan.specs.Number.{coordinateIn, digitsAfter, asCoordinate};
-ghost use Rattle.plan.specs.Coordinate.{coordinateRead};
+ghost use Rattle.plan.specs.rules.Number.{coordinateIn, digitsAfter, asCoordinate};
+ghost use Rattle.plan.specs.code.Coordinate.{coordinateRead};
 
 // A coordinate, where the text is one.
 pub(crate) enum Coordinate {

@@ -11,8 +11,8 @@ use crate::refusal::number_of;
 use crate::sheet::write;
 ghost use mathlib.Core.Path.{_≡_};
 ghost use lib.ListN.{length};
-ghost use Rattle.plan.specs.Calls.{writtenNumber, writtenLength, carriedAt};
-ghost use Rattle.plan.specs.Output.{outputOf, outputWritten, outputNumber, outputAfter, refusalWritten, refusalAfter};
+ghost use Rattle.plan.specs.rules.Calls.{writtenNumber, writtenLength, carriedAt};
+ghost use Rattle.plan.specs.rules.Output.{outputOf, outputWritten, outputNumber, outputAfter, refusalWritten, refusalAfter};
 ghost use Rattle.plan.specs.Demands.{SheetFor};
 
 // Writes the word refused, a tab, the number and a line feed, where there is room.

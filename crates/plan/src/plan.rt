@@ -11,12 +11,12 @@ ghost use mathlib.Core.Path.{_≡_};
 ghost use mathlib.Core.Bool.{true};
 ghost use Prim.Native.Nat.{_≤_};
 ghost use lib.ListN.{length};
-ghost use Rattle.placing.specs.Units.{OnPlan};
-ghost use Rattle.plan.specs.Name.{isName, bytesOf, nameOf};
-ghost use Rattle.plan.specs.Enter.{appended};
-ghost use Rattle.plan.specs.Plan.{sitesIn, Valid};
-ghost use Rattle.plan.specs.Calls.{started, plannedOr};
-ghost use Rattle.plan.specs.Taken.{ShortNames, namesTaken, placesTaken, siteOf};
+ghost use Rattle.placing.specs.rules.Units.{OnPlan};
+ghost use Rattle.plan.specs.rules.Name.{isName, bytesOf, nameOf};
+ghost use Rattle.plan.specs.rules.Enter.{appended};
+ghost use Rattle.plan.specs.rules.Plan.{sitesIn, Valid};
+ghost use Rattle.plan.specs.rules.Calls.{started, plannedOr};
+ghost use Rattle.plan.specs.code.Taken.{ShortNames, namesTaken, placesTaken, siteOf};
 
 // Slots past the count hold nothing: a name of no bytes, the place 0, 0 and corner 0. While a plan is not placed, its side is
 // free and its corners are 0.

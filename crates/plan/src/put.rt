@@ -4,9 +4,9 @@ ghost use mathlib.Core.Path.{_≡_};
 ghost use Prim.Native.Nat.{_+_, _≤_, _<_};
 ghost use mathlib.Core.List.{[], _∷_};
 ghost use lib.ListN.{length, take};
-ghost use Rattle.plan.specs.Number.{decimal};
-ghost use Rattle.plan.specs.Name.{bytesOf};
-ghost use Rattle.plan.specs.Put.{Put};
+ghost use Rattle.plan.specs.rules.Number.{decimal};
+ghost use Rattle.plan.specs.rules.Name.{bytesOf};
+ghost use Rattle.plan.specs.code.Put.{Put};
 
 // One byte.
 pub(crate) fn put_byte(out: &mut [u8], at: usize, b: u8) -> usize

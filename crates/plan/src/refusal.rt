@@ -1,6 +1,6 @@
 // Why a call is refused, with document 01's numbers.
 ghost use mathlib.Core.Path.{_≡_};
-ghost use Rattle.plan.specs.Refusal.{numberOf};
+ghost use Rattle.plan.specs.rules.Refusal.{numberOf};
 
 pub enum Refusal {
     Line,

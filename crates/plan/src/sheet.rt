@@ -13,15 +13,15 @@ ghost use mathlib.Core.Path.{_≡_};
 ghost use mathlib.Core.Bool.{true};
 ghost use Prim.Native.Nat.{_+_, _≤_};
 ghost use lib.ListN.{length};
-ghost use Rattle.placing.specs.Units.{OnPlan};
-ghost use Rattle.placing.specs.Corner.{Corner};
-ghost use Rattle.plan.specs.Sheet.{sheetOf};
-ghost use Rattle.plan.specs.Plan.{sitesIn, Valid};
-ghost use Rattle.plan.specs.Site.{placesOf};
-ghost use Rattle.plan.specs.Calls.{written, bufferAfter, writtenNumber, writtenLength, writeNumber, carriedAt};
-ghost use Rattle.plan.specs.Taken.{siteOf};
-ghost use Rattle.plan.specs.Put.{Put};
-ghost use Rattle.plan.specs.SheetParts.{sideLineEnded, siteLineEnded, SideSmall};
+ghost use Rattle.placing.specs.rules.Units.{OnPlan};
+ghost use Rattle.placing.specs.rules.Corner.{Corner};
+ghost use Rattle.plan.specs.rules.Sheet.{sheetOf};
+ghost use Rattle.plan.specs.rules.Plan.{sitesIn, Valid};
+ghost use Rattle.plan.specs.rules.Site.{placesOf};
+ghost use Rattle.plan.specs.rules.Calls.{written, bufferAfter, writtenNumber, writtenLength, writeNumber, carriedAt};
+ghost use Rattle.plan.specs.code.Taken.{siteOf};
+ghost use Rattle.plan.specs.code.Put.{Put};
+ghost use Rattle.plan.specs.code.SheetParts.{sideLineEnded, siteLineEnded, SideSmall};
 ghost use Rattle.plan.specs.Demands.{NoRivalIn, ReadsOffIn};
 
 // The first line: the word side, a tab and the side.

@@ -10,15 +10,15 @@ use lib.ListN.{length, take, drop}
 use lib.Seq.{take-append-seam}
 use Rattle.plan.specs.declared.refusal.Refusal.{Refusal}
 use Rattle.plan.specs.declared.refusal.Refusal.the-variants.{NoSites, ShortBuffer}
-use Rattle.plan.specs.Refusal.{numberOf}
-use Rattle.plan.specs.Refusing.{number-small}
-use Rattle.plan.specs.Site.{Site, Listed}
-use Rattle.plan.specs.Enter.{Sites, accepted, refused}
-use Rattle.plan.specs.List.{readList, read-listed}
-use Rattle.plan.specs.Sheet.{sheetOf, sheet-shortest}
-use Rattle.plan.specs.Output.{outputOf, output-sheet}
+use Rattle.plan.specs.rules.Refusal.{numberOf}
+use Rattle.plan.specs.code.Refusing.{number-small}
+use Rattle.plan.specs.rules.Site.{Site, Listed}
+use Rattle.plan.specs.rules.Enter.{Sites, accepted, refused}
+use Rattle.plan.specs.rules.List.{readList, read-listed}
+use Rattle.plan.specs.rules.Sheet.{sheetOf, sheet-shortest}
+use Rattle.plan.specs.rules.Output.{outputOf, output-sheet}
 use Rattle.plan.specs.Demands.{NoRival}
-use Rattle.plan.specs.SheetLaws.{no-rival}
+use Rattle.plan.specs.theorems.SheetLaws.{no-rival}
 
 -- The number that the call gives, and the buffer afterwards.
 pub record Called : Type 0 where

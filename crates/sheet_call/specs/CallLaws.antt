@@ -14,16 +14,16 @@ use Rattle.plan.specs.declared.refusal.Outcome.{Outcome}
 use Rattle.plan.specs.declared.refusal.Outcome.the-variants.{Done, Refused}
 use Rattle.plan.specs.declared.refusal.Refusal.{Refusal}
 use Rattle.plan.specs.declared.refusal.Refusal.the-variants.{NoSites}
-use Rattle.plan.specs.Refusal.{numberOf}
-use Rattle.plan.specs.Refusing.{refusal-short}
-use Rattle.plan.specs.Site.{Site}
-use Rattle.plan.specs.Enter.{Sites, accepted, refused}
-use Rattle.plan.specs.List.{readList, read-listed}
-use Rattle.plan.specs.Sheet.{sheetOf, sheet-shortest}
-use Rattle.plan.specs.Plan.{unplaced}
-use Rattle.plan.specs.Calls.{plannedOr, started, readFrom, placedIn, written, bufferAfter, filledWhere}
-use Rattle.plan.specs.Output.{outputOf, outputWhere, output-sheet}
-use Rattle.plan.specs.Filling.{place-refused, place-done, sheet-filled, Filled}
+use Rattle.plan.specs.rules.Refusal.{numberOf}
+use Rattle.plan.specs.code.Refusing.{refusal-short}
+use Rattle.plan.specs.rules.Site.{Site}
+use Rattle.plan.specs.rules.Enter.{Sites, accepted, refused}
+use Rattle.plan.specs.rules.List.{readList, read-listed}
+use Rattle.plan.specs.rules.Sheet.{sheetOf, sheet-shortest}
+use Rattle.plan.specs.rules.Plan.{unplaced}
+use Rattle.plan.specs.rules.Calls.{plannedOr, started, readFrom, placedIn, written, bufferAfter, filledWhere}
+use Rattle.plan.specs.rules.Output.{outputOf, outputWhere, output-sheet}
+use Rattle.plan.specs.code.Filling.{place-refused, place-done, sheet-filled, Filled}
 use Rattle.sheet_call.specs.Call.{Called, Told, refusal, sheetIn, calledFor, called, call-told}
 
 -- What the contract says of a number and of a buffer afterwards.

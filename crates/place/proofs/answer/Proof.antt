@@ -3,7 +3,7 @@
 use lib.ListN.{take, replicate}
 use mathlib.Core.Path.{sym}
 use lib.Seq.{length-take-le}
-use Rattle.plan.specs.Within.{output-within}
+use Rattle.plan.specs.code.Within.{output-within}
 use borrow.Author.Needs.{needs}
 use Rattle.place.proofs.answer.Statement.{statement}
 use Rattle.place.proofs.answer.Tie as tie

@@ -5,7 +5,7 @@ use Prim.Native.Nat.{_≤_, _-_}
 use native.Mathlib.Omega.{arith}
 use borrow.Author.Needs.{needs}
 use lib.Seq.{length-take-le}
-use Rattle.plan.specs.Plan.{Valid}
+use Rattle.plan.specs.rules.Plan.{Valid}
 use Rattle.known_answers.proofs.lists.full.Statement.{statement}
 use Rattle.known_answers.proofs.lists.full.Tie as tie
 

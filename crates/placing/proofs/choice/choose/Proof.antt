@@ -1,7 +1,7 @@
 -- `placing::choice::choose` meets its contract: the walk starts at a fresh state, and its end is the first good choice or none.
 -- Assumes nothing.
-use Rattle.placing.specs.Walk.{walk-starts}
-use Rattle.placing.specs.Chosen.{walked-choice}
+use Rattle.placing.specs.search.Walk.{walk-starts}
+use Rattle.placing.specs.code.Chosen.{walked-choice}
 use borrow.Author.Needs.{needs}
 use Rattle.placing.proofs.choice.choose.Statement.{statement}
 use Rattle.placing.proofs.choice.choose.Tie as tie

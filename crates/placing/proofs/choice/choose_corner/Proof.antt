@@ -5,10 +5,10 @@ use mathlib.Core.Logic.{⊎-elim}
 use native.Mathlib.Omega.{arith}
 use Prim.Native.Nat.{_≤_, _-_}
 use borrow.Author.Needs.{needs}
-use Rattle.placing.specs.Labels.{labels}
-use Rattle.placing.specs.Ways.{Kept}
-use Rattle.placing.specs.Marks.{kept-same, kept-twice}
-use Rattle.placing.specs.Walking.{RefusedUpTo, row-next, refused-none, refused-more, refused-byte, takes-corner, takes-none}
+use Rattle.placing.specs.search.Labels.{labels}
+use Rattle.placing.specs.code.Ways.{Kept}
+use Rattle.placing.specs.code.Marks.{kept-same, kept-twice}
+use Rattle.placing.specs.code.Walking.{RefusedUpTo, row-next, refused-none, refused-more, refused-byte, takes-corner, takes-none}
 use Rattle.placing.proofs.choice.choose_corner.Statement.{statement}
 use Rattle.placing.proofs.choice.choose_corner.Tie as tie
 

@@ -5,13 +5,13 @@ use mathlib.Core.Logic.{⊎-elim}
 use native.Mathlib.Omega.{arith}
 use borrow.Author.Needs.{needs}
 use borrow.Author.Tests.{not-true, not-false}
-use Rattle.placing.specs.Choice.{cornerAt}
-use Rattle.placing.specs.State.{Walked}
-use Rattle.placing.specs.Walk.{walk-decided-add-one}
-use Rattle.placing.specs.Labels.{labels}
-use Rattle.placing.specs.Ways.{Kept, Sizes, rowOf}
-use Rattle.placing.specs.Marks.{kept-same, kept-twice}
-use Rattle.placing.specs.Walking.{walk-over, walked-all}
+use Rattle.placing.specs.rules.Choice.{cornerAt}
+use Rattle.placing.specs.search.State.{Walked}
+use Rattle.placing.specs.search.Walk.{walk-decided-add-one}
+use Rattle.placing.specs.search.Labels.{labels}
+use Rattle.placing.specs.code.Ways.{Kept, Sizes, rowOf}
+use Rattle.placing.specs.code.Marks.{kept-same, kept-twice}
+use Rattle.placing.specs.code.Walking.{walk-over, walked-all}
 use Rattle.placing.proofs.choice.walk.Statement.{statement}
 use Rattle.placing.proofs.choice.walk.Tie as tie
 

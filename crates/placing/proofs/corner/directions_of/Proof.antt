@@ -7,7 +7,7 @@ use native.Mathlib.Omega.{arith}
 use lib.Dec.{eqb}
 use lib.ListN.{getD}
 use Rattle.placing.specs.declared.corner.Directions.{Directions}
-use Rattle.placing.specs.Corner.{Corner, directionsOf, upWhere}
+use Rattle.placing.specs.rules.Corner.{Corner, directionsOf, upWhere}
 use borrow.Author.Needs.{needs}
 use Rattle.placing.proofs.corner.directions_of.Statement.{statement}
 use Rattle.placing.proofs.corner.directions_of.Tie as tie

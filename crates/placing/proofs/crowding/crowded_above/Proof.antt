@@ -3,8 +3,8 @@
 use Prim.Native.Nat.{_≤_, _-_}
 use native.Mathlib.Omega.{arith}
 use mathlib.Core.Logic.{⊎-elim}
-use Rattle.placing.specs.Sites.{sitesOf, length-sites}
-use Rattle.placing.specs.Crowding.{SiteAmong, held-on-plan, site-none, site-other, site-self, site-all}
+use Rattle.placing.specs.code.Sites.{sitesOf, length-sites}
+use Rattle.placing.specs.code.Crowding.{SiteAmong, held-on-plan, site-none, site-other, site-self, site-all}
 use Rattle.placing.proofs.crowding.crowded_above.Statement.{statement}
 use Rattle.placing.proofs.crowding.crowded_above.Tie as tie
 

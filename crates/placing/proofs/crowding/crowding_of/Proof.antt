@@ -3,8 +3,8 @@
 use Prim.Native.Nat.{_≤_, _-_}
 use native.Mathlib.Omega.{arith}
 use mathlib.Core.Path.{_≡_, refl}
-use Rattle.placing.specs.Sites.{sitesOf}
-use Rattle.placing.specs.Crowding.{CrowdingBelow, crowding-none, crowding-more}
+use Rattle.placing.specs.code.Sites.{sitesOf}
+use Rattle.placing.specs.code.Crowding.{CrowdingBelow, crowding-none, crowding-more}
 use Rattle.placing.proofs.crowding.crowding_of.Statement.{statement}
 use Rattle.placing.proofs.crowding.crowding_of.Tie as tie
 

@@ -1,7 +1,7 @@
 -- `crowding::nearer` meets its contract: each call gives the number of one corner.
 -- Assumes nothing.
 use borrow.Author.Needs.{needs}
-use Rattle.placing.specs.Crowding.{aboveOf, Lowered, each-corner}
+use Rattle.placing.specs.code.Crowding.{aboveOf, Lowered, each-corner}
 use Rattle.placing.specs.declared.crowding.Above.{Above}
 use Rattle.placing.proofs.crowding.nearer.Statement.{statement}
 use Rattle.placing.proofs.crowding.nearer.Tie as tie

@@ -3,7 +3,7 @@
 use Prim.Native.Nat.{_≤_, _-_}
 use native.Mathlib.Omega.{arith}
 use mathlib.Core.Path.{_≡_, refl}
-use Rattle.placing.specs.Fresh.{OpenedBelow, opened-none, opened-more, fresh-all}
+use Rattle.placing.specs.code.Fresh.{OpenedBelow, opened-none, opened-more, fresh-all}
 use Rattle.placing.proofs.fresh.fresh_state.Statement.{statement}
 use Rattle.placing.proofs.fresh.fresh_state.Tie as tie
 

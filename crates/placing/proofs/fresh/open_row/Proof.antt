@@ -1,6 +1,6 @@
 -- `fresh::open_row` meets its contract: each of the four bytes is written by `is_open`.
 -- Assumes nothing.
-use Rattle.placing.specs.Fresh.{opened-row}
+use Rattle.placing.specs.code.Fresh.{opened-row}
 use borrow.Author.Needs.{needs}
 use Rattle.placing.proofs.fresh.open_row.Statement.{statement}
 use Rattle.placing.proofs.fresh.open_row.Tie as tie

@@ -7,9 +7,9 @@ use native.Mathlib.Omega.{arith}
 use lib.ListN.{length, getD, set, take, length-set, length-map, List·getD-map}
 use lib.Seq.{ext-getD, getD-take, length-take-le}
 use borrow.Author.Needs.{needs}
-use Rattle.placing.specs.Units.{xOf, yOf, siteAt, nowhere}
+use Rattle.placing.specs.rules.Units.{xOf, yOf, siteAt, nowhere}
 use Rattle.placing.specs.declared.units.Place.{Place}
-use Rattle.placing.specs.Sites.{sitesOf, length-sites, site-at}
+use Rattle.placing.specs.code.Sites.{sitesOf, length-sites, site-at}
 use Rattle.placing.proofs.Copied.{copied, copied-more, copied-at, zeros, length-zeros}
 use Rattle.placing.proofs.place.coordinates_of.Statement.{statement}
 use Rattle.placing.proofs.place.coordinates_of.Tie as tie

@@ -7,9 +7,9 @@ use native.Mathlib.Nat.{mul-le-mul-right}
 use native.Mathlib.Omega.{arith}
 use lib.ListN.{replicate}
 use Rattle.placing.specs.declared.units.Place.{Place}
-use Rattle.placing.specs.Answer.{answerOf}
-use Rattle.placing.specs.Marks.{kept-further}
-use Rattle.placing.specs.Placed.{may-find, placedAs}
+use Rattle.placing.specs.rules.Answer.{answerOf}
+use Rattle.placing.specs.code.Marks.{kept-further}
+use Rattle.placing.specs.code.Placed.{may-find, placedAs}
 use borrow.Author.Needs.{needs}
 use Rattle.placing.proofs.place.place_labels.Statement.{statement}
 use Rattle.placing.proofs.place.place_labels.Tie as tie

@@ -4,11 +4,11 @@ use mathlib.Core.Path.{_∙_}
 use Prim.Native.Nat.{ℕ, _-_}
 use native.Mathlib.Omega.{arith}
 use borrow.Author.Needs.{needs}
-use Rattle.placing.specs.Sites.{sitesOf, length-sites, held-at}
+use Rattle.placing.specs.code.Sites.{sitesOf, length-sites, held-at}
 use Rattle.placing.specs.declared.units.Side.the-variants.{Number}
-use Rattle.placing.specs.Ways.{Kept}
-use Rattle.placing.specs.Marks.{kept-same, kept-twice}
-use Rattle.placing.specs.Bisect.{Between, between-starts, between-up, between-down, between-ends}
+use Rattle.placing.specs.code.Ways.{Kept}
+use Rattle.placing.specs.code.Marks.{kept-same, kept-twice}
+use Rattle.placing.specs.code.Bisect.{Between, between-starts, between-up, between-down, between-ends}
 use Rattle.placing.proofs.side.bisect.Statement.{statement}
 use Rattle.placing.proofs.side.bisect.Tie as tie
 

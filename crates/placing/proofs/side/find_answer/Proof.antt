@@ -2,9 +2,9 @@
 -- Assumes nothing.
 use mathlib.Core.Path.{_∙_}
 use Rattle.placing.specs.declared.units.Side.the-variants.{Free}
-use Rattle.placing.specs.Sites.{length-sites}
-use Rattle.placing.specs.Marks.{kept-twice}
-use Rattle.placing.specs.Bisect.{free-placed, not-free}
+use Rattle.placing.specs.code.Sites.{length-sites}
+use Rattle.placing.specs.code.Marks.{kept-twice}
+use Rattle.placing.specs.code.Bisect.{free-placed, not-free}
 use borrow.Author.Needs.{needs}
 use Rattle.placing.proofs.side.find_answer.Statement.{statement}
 use Rattle.placing.proofs.side.find_answer.Tie as tie

@@ -5,10 +5,10 @@ use Prim.Native.Nat.{_<_}
 use native.Mathlib.Nat.{lt-of-lt-of-le}
 use native.Mathlib.Omega.{arith}
 use borrow.Author.Tests.{not-true, not-false}
-use Rattle.placing.specs.Choice.{cornerAt}
-use Rattle.placing.specs.Labels.{labels}
-use Rattle.placing.specs.Marks.{unmarkedBelow, mark-fewer, kept-set}
-use Rattle.placing.specs.Onward.{CarryingOn, carrying-starts, carrying-settled, carrying-corner, carrying-ends, carrying-on, carrying-stuck}
+use Rattle.placing.specs.rules.Choice.{cornerAt}
+use Rattle.placing.specs.search.Labels.{labels}
+use Rattle.placing.specs.code.Marks.{unmarkedBelow, mark-fewer, kept-set}
+use Rattle.placing.specs.code.Onward.{CarryingOn, carrying-starts, carrying-settled, carrying-corner, carrying-ends, carrying-on, carrying-stuck}
 use Rattle.placing.proofs.trial.carry_on.Statement.{statement}
 use Rattle.placing.proofs.trial.carry_on.Tie as tie
 

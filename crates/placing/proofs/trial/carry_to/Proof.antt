@@ -1,6 +1,6 @@
 -- `trial::carry_to` meets its contract: only corner `c` of site `j` can clash, and `meet` decides whether it does; then it is closed.
 -- Assumes nothing.
-use Rattle.placing.specs.Carry.{carried-meeting, carried-apart}
+use Rattle.placing.specs.code.Carry.{carried-meeting, carried-apart}
 use borrow.Author.Needs.{needs}
 use Rattle.placing.proofs.trial.carry_to.Statement.{statement}
 use Rattle.placing.proofs.trial.carry_to.Tie as tie

@@ -2,7 +2,7 @@
 use Prim.Native.Nat.{_≤_, _-_}
 use native.Mathlib.Omega.{arith}
 use mathlib.Core.Logic.{⊎-elim}
-use Rattle.placing.specs.Marks.{NoneWaits, none-waits-start, none-waits-marked, none-waits-undecided, waiting-found, waiting-none}
+use Rattle.placing.specs.code.Marks.{NoneWaits, none-waits-start, none-waits-marked, none-waits-undecided, waiting-found, waiting-none}
 use Rattle.placing.proofs.trial.first_waiting.Statement.{statement}
 use Rattle.placing.proofs.trial.first_waiting.Tie as tie
 

@@ -1,7 +1,7 @@
 -- `trial::left_of` meets its contract: each way out knows which bytes are 1, and a law on rows of four bytes says what is left.
 -- Assumes nothing.
 use native.Mathlib.Omega.{arith}
-use Rattle.placing.specs.Ways.{lone-row, none-row, some-row}
+use Rattle.placing.specs.code.Ways.{lone-row, none-row, some-row}
 use Rattle.placing.proofs.trial.left_of.Statement.{statement}
 use Rattle.placing.proofs.trial.left_of.Tie as tie
 

@@ -4,7 +4,7 @@ use Prim.Native.Nat.{_≤_, _-_}
 use native.Mathlib.Omega.{arith}
 use mathlib.Core.Path.{refl}
 use mathlib.Core.Logic.{⊎-elim}
-use Rattle.placing.specs.Marks.{Marking, marking-starts, marking-on, marking-ends}
+use Rattle.placing.specs.code.Marks.{Marking, marking-starts, marking-on, marking-ends}
 use Rattle.placing.proofs.trial.mark.Statement.{statement}
 use Rattle.placing.proofs.trial.mark.Tie as tie
 

@@ -1,6 +1,6 @@
 -- `trial::take_corner` meets its contract: what its writes make of the bytes is a law of specs/Carry.
 -- Assumes nothing.
-use Rattle.placing.specs.Carry.{taken-corner}
+use Rattle.placing.specs.code.Carry.{taken-corner}
 use borrow.Author.Needs.{needs}
 use Rattle.placing.proofs.trial.take_corner.Statement.{statement}
 use Rattle.placing.proofs.trial.take_corner.Tie as tie

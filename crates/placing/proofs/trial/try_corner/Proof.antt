@@ -1,6 +1,6 @@
 -- `placing::trial::try_corner` meets its contract: taking the corner starts a trial, and carrying on ends it. Assumes nothing.
-use Rattle.placing.specs.Marks.{kept-twice}
-use Rattle.placing.specs.Onward.{taken-underway, taken-tried}
+use Rattle.placing.specs.code.Marks.{kept-twice}
+use Rattle.placing.specs.code.Onward.{taken-underway, taken-tried}
 use borrow.Author.Needs.{needs}
 use Rattle.placing.proofs.trial.try_corner.Statement.{statement}
 use Rattle.placing.proofs.trial.try_corner.Tie as tie

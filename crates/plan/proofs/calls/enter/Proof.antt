@@ -5,13 +5,13 @@ use mathlib.Core.List.{List}
 use Prim.Native.Nat.{ℕ}
 use denote.Ref.{now}
 use borrow.Author.Tests.{not-true, not-false}
-use Rattle.plan.specs.Name.{isName, bytesOf, nameOf}
-use Rattle.plan.specs.Site.{placeAt}
-use Rattle.plan.specs.Enter.{appended}
-use Rattle.plan.specs.Plan.{sitesIn}
-use Rattle.plan.specs.Calls.{plannedOr}
-use Rattle.plan.specs.Numbers.{enter-told}
-use Rattle.plan.specs.CallLaws.{
+use Rattle.plan.specs.rules.Name.{isName, bytesOf, nameOf}
+use Rattle.plan.specs.rules.Site.{placeAt}
+use Rattle.plan.specs.rules.Enter.{appended}
+use Rattle.plan.specs.rules.Plan.{sitesIn}
+use Rattle.plan.specs.rules.Calls.{plannedOr}
+use Rattle.plan.specs.theorems.Numbers.{enter-told}
+use Rattle.plan.specs.code.CallLaws.{
   refuses,
   entered-unnamed,
   entered-far-x,

@@ -3,8 +3,8 @@ use Prim.Native.Nat.{_≤_}
 use native.Mathlib.Nat.{mul-le-mul}
 use native.Mathlib.Omega.{arith}
 use denote.Ref.{now}
-use Rattle.plan.specs.PlanLaws.{valid-holding, holding-may, holding-placed}
-use Rattle.plan.specs.CallLaws.{placed-none, placed-short, place-refuses, place-accepts}
+use Rattle.plan.specs.code.PlanLaws.{valid-holding, holding-may, holding-placed}
+use Rattle.plan.specs.code.CallLaws.{placed-none, placed-short, place-refuses, place-accepts}
 use borrow.Author.Needs.{needs}
 use Rattle.plan.proofs.calls.place.Statement.{statement}
 use Rattle.plan.proofs.calls.place.Tie as tie

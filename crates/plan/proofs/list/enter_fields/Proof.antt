@@ -4,12 +4,12 @@ use mathlib.Core.Path.{_≡_, sym, ap, _∙_}
 use borrow.Author.Needs.{needs}
 use borrow.Author.Tests.{not-true, not-false}
 use Rattle.plan.specs.declared.number.Coordinate.the-variants.{At}
-use Rattle.plan.specs.Number.{coordinateIn}
-use Rattle.plan.specs.Coordinate.{coordinateRead}
-use Rattle.plan.specs.Name.{nameOf, isName}
-use Rattle.plan.specs.CallLaws.{refuses, read-ok}
-use Rattle.plan.specs.FieldLaws.{call-answers, coordinate-on, NamedAs, name-read}
-use Rattle.plan.specs.FieldLaws.{fields-unnamed, fields-no-x, fields-no-y, fields-appended}
+use Rattle.plan.specs.rules.Number.{coordinateIn}
+use Rattle.plan.specs.code.Coordinate.{coordinateRead}
+use Rattle.plan.specs.rules.Name.{nameOf, isName}
+use Rattle.plan.specs.code.CallLaws.{refuses, read-ok}
+use Rattle.plan.specs.code.FieldLaws.{call-answers, coordinate-on, NamedAs, name-read}
+use Rattle.plan.specs.code.FieldLaws.{fields-unnamed, fields-no-x, fields-no-y, fields-appended}
 use Rattle.plan.proofs.list.enter_fields.Statement.{statement}
 use Rattle.plan.proofs.list.enter_fields.Tie as tie
 

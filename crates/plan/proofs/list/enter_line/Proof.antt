@@ -2,9 +2,9 @@
 use mathlib.Core.Path.{sym}
 use lib.Seq.{length-take-le}
 use borrow.Author.Needs.{needs}
-use Rattle.plan.specs.CallLaws.{refuses}
-use Rattle.plan.specs.FieldLaws.{call-answers}
-use Rattle.plan.specs.LineLaws.{line-of-one, line-of-two, line-of-three, line-of-four}
+use Rattle.plan.specs.code.CallLaws.{refuses}
+use Rattle.plan.specs.code.FieldLaws.{call-answers}
+use Rattle.plan.specs.code.LineLaws.{line-of-one, line-of-two, line-of-three, line-of-four}
 use Rattle.plan.proofs.list.enter_line.Statement.{statement}
 use Rattle.plan.proofs.list.enter_line.Tie as tie
 

@@ -2,7 +2,7 @@
 use Prim.Native.Nat.{_-_}
 use native.Mathlib.Omega.{arith}
 use lib.ListN.{length}
-use Rattle.plan.specs.LineLaws.{NoTab, no-tab-starts, no-tab-on, field-ends}
+use Rattle.plan.specs.code.LineLaws.{NoTab, no-tab-starts, no-tab-on, field-ends}
 use Rattle.plan.proofs.list.field_end.Statement.{statement}
 use Rattle.plan.proofs.list.field_end.Tie as tie
 

@@ -3,7 +3,7 @@
 use Prim.Native.Nat.{_-_, _≤_}
 use native.Mathlib.Omega.{arith}
 use mathlib.Core.Path.{sym}
-use Rattle.plan.specs.LineLaws.{LineFrom, line-starts, line-on, line-here, line-short, line-long}
+use Rattle.plan.specs.code.LineLaws.{LineFrom, line-starts, line-on, line-here, line-short, line-long}
 use Rattle.plan.proofs.list.line_end.Statement.{statement}
 use Rattle.plan.proofs.list.line_end.Tie as tie
 

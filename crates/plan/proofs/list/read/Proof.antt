@@ -5,9 +5,9 @@ use native.Mathlib.Omega.{arith}
 use mathlib.Core.Path.{sym, _∙_}
 use lib.ListN.{length}
 use borrow.Author.Needs.{needs}
-use Rattle.plan.specs.Reading.{LineAt, line-found, refused-for, accepted-as, Reading, reading-starts, reading-valid, reading-missing}
-use Rattle.plan.specs.Reading.{reading-refused, reading-on, reading-ends, reading-answers}
-use Rattle.plan.specs.Numbers.{read-told}
+use Rattle.plan.specs.code.Reading.{LineAt, line-found, refused-for, accepted-as, Reading, reading-starts, reading-valid, reading-missing}
+use Rattle.plan.specs.code.Reading.{reading-refused, reading-on, reading-ends, reading-answers}
+use Rattle.plan.specs.theorems.Numbers.{read-told}
 use Rattle.plan.proofs.list.read.Statement.{statement}
 use Rattle.plan.proofs.list.read.Tie as tie
 

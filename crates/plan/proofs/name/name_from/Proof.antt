@@ -8,8 +8,8 @@ use lib.ListN.{length, getD, set, drop, replicate}
 use borrow.Author.Needs.{needs}
 use borrow.Author.Tests.{not-true, not-false}
 use Rattle.placing.proofs.Copied.{copied, copied-more}
-use Rattle.plan.specs.Name.{nameBytes}
-use Rattle.plan.specs.NameLaws.{byte-passed, byte-failed, bytes-passed, empty-no-name, long-no-name, short-name, no-name-read, name-read}
+use Rattle.plan.specs.rules.Name.{nameBytes}
+use Rattle.plan.specs.code.NameLaws.{byte-passed, byte-failed, bytes-passed, empty-no-name, long-no-name, short-name, no-name-read, name-read}
 use Rattle.plan.proofs.name.name_from.Statement.{statement}
 use Rattle.plan.proofs.name.name_from.Tie as tie
 

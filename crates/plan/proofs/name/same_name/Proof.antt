@@ -6,8 +6,8 @@ use native.Mathlib.Omega.{arith}
 use lib.ListN.{length, take, drop}
 use lib.Seq.{length-take-le}
 use borrow.Author.Needs.{needs}
-use Rattle.plan.specs.Name.{sameBytes, bytesOf}
-use Rattle.plan.specs.NameLaws.{lengths-differ, same-passed, same-failed, same-end}
+use Rattle.plan.specs.rules.Name.{sameBytes, bytesOf}
+use Rattle.plan.specs.code.NameLaws.{lengths-differ, same-passed, same-failed, same-end}
 use Rattle.plan.proofs.name.same_name.Statement.{statement}
 use Rattle.plan.proofs.name.same_name.Tie as tie
 

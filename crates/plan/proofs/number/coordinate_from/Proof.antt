@@ -5,9 +5,9 @@ use mathlib.Core.Option.{Option}
 use mathlib.Core.Path.{_≡_, sym, ap, _∙_}
 use Prim.Native.Nat.{ℕ}
 use native.Mathlib.Omega.{arith}
-use Rattle.plan.specs.Number.{digitsAfter, numberIn, asCoordinate}
-use Rattle.plan.specs.NumberLaws.{empty-number, leading-zero, one-digit, more-digits}
-use Rattle.plan.specs.Coordinate.{coordinateRead}
+use Rattle.plan.specs.rules.Number.{digitsAfter, numberIn, asCoordinate}
+use Rattle.plan.specs.code.NumberLaws.{empty-number, leading-zero, one-digit, more-digits}
+use Rattle.plan.specs.code.Coordinate.{coordinateRead}
 use borrow.Author.Needs.{needs}
 use Rattle.plan.proofs.number.coordinate_from.Statement.{statement}
 use Rattle.plan.proofs.number.coordinate_from.Tie as tie

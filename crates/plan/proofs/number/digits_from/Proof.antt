@@ -5,9 +5,9 @@ use Prim.Native.Nat.{_+_, _-_, _*_, _≤_}
 use native.Mathlib.Omega.{arith}
 use lib.ListN.{length, getD, drop}
 use borrow.Author.Needs.{needs}
-use Rattle.plan.specs.Number.{digitsAfter, asCoordinate}
-use Rattle.plan.specs.NumberLaws.{digit-at, low-at, high-at, end-at, in-range, beyond-stays}
-use Rattle.plan.specs.Coordinate.{coordinateRead}
+use Rattle.plan.specs.rules.Number.{digitsAfter, asCoordinate}
+use Rattle.plan.specs.code.NumberLaws.{digit-at, low-at, high-at, end-at, in-range, beyond-stays}
+use Rattle.plan.specs.code.Coordinate.{coordinateRead}
 use Rattle.plan.proofs.number.digits_from.Statement.{statement}
 use Rattle.plan.proofs.number.digits_from.Tie as tie
 

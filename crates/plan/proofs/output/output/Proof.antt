@@ -5,7 +5,7 @@ use mathlib.Core.List.{List}
 use Prim.Native.Nat.{ℕ}
 use lib.ListN.{replicate, length-replicate}
 use denote.Ref.{now}
-use Rattle.plan.specs.Filling.{filled-output, read-refused, place-refused, place-done, refusal-filled, sheet-filled}
+use Rattle.plan.specs.code.Filling.{filled-output, read-refused, place-refused, place-done, refusal-filled, sheet-filled}
 use Rattle.plan.proofs.output.output.Statement.{statement}
 use Rattle.plan.proofs.output.output.Tie as tie
 

@@ -5,12 +5,12 @@ use Prim.Native.Nat.{_+_, _≤_}
 use native.Mathlib.Omega.{arith}
 use lib.ListN.{length, replicate}
 use denote.Ref.{now}
-use Rattle.plan.specs.Number.{decimal}
-use Rattle.plan.specs.Output.{refusalLine}
-use Rattle.plan.specs.Put.{Put}
-use Rattle.plan.specs.PutLaws.{put-then, put-same, put-length, put-room}
-use Rattle.plan.specs.Refusing.{number-small, number-short, refusal-parts, refusal-short}
-use Rattle.plan.specs.Filling.{filled-short, filled-copied}
+use Rattle.plan.specs.rules.Number.{decimal}
+use Rattle.plan.specs.rules.Output.{refusalLine}
+use Rattle.plan.specs.code.Put.{Put}
+use Rattle.plan.specs.code.PutLaws.{put-then, put-same, put-length, put-room}
+use Rattle.plan.specs.code.Refusing.{number-small, number-short, refusal-parts, refusal-short}
+use Rattle.plan.specs.code.Filling.{filled-short, filled-copied}
 use Rattle.plan.proofs.output.write_refusal.Statement.{statement}
 use Rattle.plan.proofs.output.write_refusal.Tie as tie
 

@@ -5,13 +5,13 @@ use mathlib.Core.List.{List}
 use Prim.Native.Nat.{_≤_}
 use native.Mathlib.Omega.{arith}
 use Rattle.plan.specs.declared.name.Name.{Name}
-use Rattle.plan.specs.Name.{bytesOf, name-short}
-use Rattle.plan.specs.Site.{Site, nameTaken, placeTaken}
-use Rattle.plan.specs.Taken.{siteOf}
-use Rattle.plan.specs.Enter.{appended-listed}
-use Rattle.plan.specs.Plan.{sitesIn}
-use Rattle.plan.specs.PlanLaws.{Holding, valid-holding, holding-short, holding-name, holding-place, holding-more}
-use Rattle.plan.specs.CallLaws.{refuses, accepts, appended-full, appended-named, appended-placed, appended-last}
+use Rattle.plan.specs.rules.Name.{bytesOf, name-short}
+use Rattle.plan.specs.rules.Site.{Site, nameTaken, placeTaken}
+use Rattle.plan.specs.code.Taken.{siteOf}
+use Rattle.plan.specs.rules.Enter.{appended-listed}
+use Rattle.plan.specs.rules.Plan.{sitesIn}
+use Rattle.plan.specs.code.PlanLaws.{Holding, valid-holding, holding-short, holding-name, holding-place, holding-more}
+use Rattle.plan.specs.code.CallLaws.{refuses, accepts, appended-full, appended-named, appended-placed, appended-last}
 use borrow.Author.Needs.{needs}
 use Rattle.plan.proofs.plan.append.Statement.{statement}
 use Rattle.plan.proofs.plan.append.Tie as tie

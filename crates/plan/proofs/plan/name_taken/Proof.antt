@@ -6,9 +6,9 @@ use mathlib.Core.Path.{_≡_, refl, sym, _∙_}
 use lib.ListN.{take}
 use mathlib.Core.Bool.{false}
 use borrow.Author.Needs.{needs}
-use Rattle.plan.specs.Name.{bytesOf}
-use Rattle.plan.specs.Site.{among}
-use Rattle.plan.specs.TakenLaws.{among-more, among-one, isNamed, name-among, held-short}
+use Rattle.plan.specs.rules.Name.{bytesOf}
+use Rattle.plan.specs.rules.Site.{among}
+use Rattle.plan.specs.code.TakenLaws.{among-more, among-one, isNamed, name-among, held-short}
 use Rattle.plan.proofs.plan.name_taken.Statement.{statement}
 use Rattle.plan.proofs.plan.name_taken.Tie as tie
 

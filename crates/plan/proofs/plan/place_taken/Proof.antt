@@ -1,15 +1,15 @@
 -- `place_taken` meets its contract. The loop's invariant: none of the first `i` places is the place.
 -- Assumes nothing.
 use lib.ListN.{getD, take}
-use Rattle.placing.specs.Units.{nowhere}
+use Rattle.placing.specs.rules.Units.{nowhere}
 use Prim.Native.Nat.{_≤_, _-_}
 use native.Mathlib.Omega.{arith}
 use mathlib.Core.Path.{_≡_, refl, sym, _∙_}
 use mathlib.Core.Logic.{⊎-elim}
 use mathlib.Core.Bool.{false}
 use borrow.Author.Needs.{needs}
-use Rattle.plan.specs.Site.{among}
-use Rattle.plan.specs.TakenLaws.{among-more, among-one, isAt, place-among, is-at, other-x, other-y}
+use Rattle.plan.specs.rules.Site.{among}
+use Rattle.plan.specs.code.TakenLaws.{among-more, among-one, isAt, place-among, is-at, other-x, other-y}
 use Rattle.plan.proofs.plan.place_taken.Statement.{statement}
 use Rattle.plan.proofs.plan.place_taken.Tie as tie
 

@@ -5,8 +5,8 @@ use Prim.Native.Nat.{ℕ, _+_, _/_, _≤_, _<_}
 use native.Mathlib.Omega.{arith}
 use lib.ListN.{length, length-append}
 use borrow.Author.Needs.{needs}
-use Rattle.plan.specs.Number.{decimal, decimal-digit, decimal-large}
-use Rattle.plan.specs.PutLaws.{put-then, put-same, put-length}
+use Rattle.plan.specs.rules.Number.{decimal, decimal-digit, decimal-large}
+use Rattle.plan.specs.code.PutLaws.{put-then, put-same, put-length}
 use borrow.Fn.Kinds.{In}
 use borrow.Fn.PlainCycle.{Measures, is, falls, and}
 use Rattle.plan.proofs.put.put_decimal.Reads as put-decimal

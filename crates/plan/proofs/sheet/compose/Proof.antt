@@ -2,8 +2,8 @@
 -- The measure is the number of sites left. Assumes nothing.
 use Prim.Native.Nat.{_-_, _<_}
 use native.Mathlib.Omega.{arith}
-use Rattle.plan.specs.PutLaws.{put-length}
-use Rattle.plan.specs.Composing.{
+use Rattle.plan.specs.code.PutLaws.{put-length}
+use Rattle.plan.specs.code.Composing.{
   side-line-short,
   Printable,
   printable,

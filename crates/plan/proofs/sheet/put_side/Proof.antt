@@ -7,12 +7,12 @@ use native.Mathlib.Omega.{arith}
 use Prim.Native.Nat.{_≤_}
 use lib.ListN.{length}
 use denote.Ref.{now}
-use Rattle.plan.specs.Text.{tab}
-use Rattle.plan.specs.Number.{decimal, decimal-short}
-use Rattle.plan.specs.Sheet.{sideWord, sideText}
-use Rattle.plan.specs.Put.{Put}
-use Rattle.plan.specs.Composing.{side-text-short}
-use Rattle.plan.specs.PutLaws.{put-then, put-length}
+use Rattle.plan.specs.rules.Text.{tab}
+use Rattle.plan.specs.rules.Number.{decimal, decimal-short}
+use Rattle.plan.specs.rules.Sheet.{sideWord, sideText}
+use Rattle.plan.specs.code.Put.{Put}
+use Rattle.plan.specs.code.Composing.{side-text-short}
+use Rattle.plan.specs.code.PutLaws.{put-then, put-length}
 use Rattle.plan.proofs.sheet.put_side.Statement.{statement}
 use Rattle.plan.proofs.sheet.put_side.Tie as tie
 

@@ -4,11 +4,11 @@ use borrow.Author.Needs.{needs}
 use Prim.Native.Nat.{_+_, _≤_}
 use native.Mathlib.Omega.{arith}
 use lib.ListN.{length}
-use Rattle.plan.specs.Number.{decimal, decimal-short}
-use Rattle.plan.specs.Name.{bytesOf}
-use Rattle.plan.specs.Taken.{siteOf}
-use Rattle.plan.specs.Composing.{name-text-short, corner-text-short, line-parts}
-use Rattle.plan.specs.PutLaws.{put-then, put-same, put-room}
+use Rattle.plan.specs.rules.Number.{decimal, decimal-short}
+use Rattle.plan.specs.rules.Name.{bytesOf}
+use Rattle.plan.specs.code.Taken.{siteOf}
+use Rattle.plan.specs.code.Composing.{name-text-short, corner-text-short, line-parts}
+use Rattle.plan.specs.code.PutLaws.{put-then, put-same, put-room}
 use Rattle.plan.proofs.sheet.put_site.Statement.{statement}
 use Rattle.plan.proofs.sheet.put_site.Tie as tie
 

@@ -8,11 +8,11 @@ use Prim.Native.Nat.{_≤_}
 use native.Mathlib.Omega.{arith}
 use lib.ListN.{length}
 use denote.Ref.{now}
-use Rattle.plan.specs.Sheet.{sheetOf, sheet-longest}
-use Rattle.plan.specs.Plan.{sitesIn}
-use Rattle.plan.specs.PutLaws.{put-length}
-use Rattle.plan.specs.Numbers.{write-told}
-use Rattle.plan.specs.Filling.{filled-short, filled-copied, filled-written, filled-no-rival, filled-reads, valid-listed}
+use Rattle.plan.specs.rules.Sheet.{sheetOf, sheet-longest}
+use Rattle.plan.specs.rules.Plan.{sitesIn}
+use Rattle.plan.specs.code.PutLaws.{put-length}
+use Rattle.plan.specs.theorems.Numbers.{write-told}
+use Rattle.plan.specs.code.Filling.{filled-short, filled-copied, filled-written, filled-no-rival, filled-reads, valid-listed}
 use Rattle.plan.proofs.sheet.write.Statement.{statement}
 use Rattle.plan.proofs.sheet.write.Tie as tie
 

@@ -1,5 +1,5 @@
 -- `Plan::start` meets its contract: its record is the plan of no sites. Assumes nothing.
-use Rattle.plan.specs.PlanLaws.{empty-started, empty-valid}
+use Rattle.plan.specs.code.PlanLaws.{empty-started, empty-valid}
 use borrow.Author.Needs.{needs}
 use Rattle.plan.proofs.plan.Plan.start.Statement.{statement}
 use Rattle.plan.proofs.plan.Plan.start.Tie as tie

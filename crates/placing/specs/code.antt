@@ -1,0 +1,14 @@
+-- What the functions ask and promise, in terms of the arrays that they hold.
+pub mod Decides
+pub mod Sites
+pub mod Crowding
+pub mod Ways
+pub mod Asks
+pub mod Carry
+pub mod Marks
+pub mod Onward
+pub mod Fresh
+pub mod Walking
+pub mod Chosen
+pub mod Placed
+pub mod Bisect

@@ -1,0 +1,71 @@
+-- What the functions of a trial ask of their callers, each as one record.
+-- Assumes nothing.
+use mathlib.Core.Path.{_≡_}
+use mathlib.Core.List.{List}
+use mathlib.Core.Logic.{_≢_}
+use Prim.Native.Nat.{ℕ, _≤_, _<_}
+use lib.ListN.{length, getD}
+use Rattle.placing.specs.declared.units.HalfUnits.{HalfUnits}
+use Rattle.placing.specs.declared.crowding.Crowding.{Crowding}
+use Rattle.placing.specs.rules.Units.{OnPlan, Judged}
+use Rattle.placing.specs.rules.Corner.{Corner}
+use Rattle.placing.specs.rules.Choice.{cornerAt}
+use Rattle.placing.specs.code.Sites.{Held, placeAt, sitesOf}
+use Rattle.placing.specs.code.Crowding.{CrowdingIs}
+use Rattle.placing.specs.search.State.{Underway, Closed, Walked}
+use Rattle.placing.specs.search.Labels.{labels}
+use Rattle.placing.specs.code.Ways.{rowOf, Sizes, Settled, AllSettled}
+
+-- Carrying the decision c of site k to another site j.
+pub record MayCarryTo (xs ys : List ℕ) (side : HalfUnits) (ways decided : List ℕ) (k c j : ℕ) : Type 0 where
+  pub judged : Judged side
+  pub x-size : length xs ≡ 240
+  pub y-size : length ys ≡ 240
+  pub from-plan : OnPlan (placeAt xs ys k)
+  pub to-plan : OnPlan (placeAt xs ys j)
+  pub from-listed : k < 240
+  pub to-listed : j < 240
+  pub different : j ≢ k
+  pub sizes : Sizes ways decided
+  pub corner : Corner c
+  pub is-decided : c ≡ cornerAt decided k
+  pub settled : Settled ways decided j
+
+-- Carrying out the decision of site k.
+pub record MayCarryOut (n : ℕ) (xs ys : List ℕ) (side : HalfUnits) (ways decided : List ℕ) (k : ℕ) : Type 0 where
+  pub held : Held n xs ys side
+  pub sizes : Sizes ways decided
+  pub listed : k < n
+  pub corner : Corner (cornerAt decided k)
+  pub settled : AllSettled n ways decided
+
+-- Carrying out all decisions that are not marked.
+pub record MayCarryOn (n : ℕ) (xs ys : List ℕ) (side : HalfUnits) (ways decided marks : List ℕ) : Type 0 where
+  pub held : Held n xs ys side
+  pub sizes : Sizes ways decided
+  pub room : n ≤ length marks
+  pub underway : Underway (labels (side .0) n xs ys) (rowOf ways) (cornerAt decided) (cornerAt marks)
+
+-- Trying corner c of site i.
+pub record MayTry (n : ℕ) (xs ys : List ℕ) (side : HalfUnits) (ways decided marks : List ℕ) (i c : ℕ) : Type 0 where
+  pub held : Held n xs ys side
+  pub sizes : Sizes ways decided
+  pub room : n ≤ length marks
+  pub listed : i < n
+  pub corner : Corner c
+  pub closed : Closed (labels (side .0) n xs ys) (rowOf ways) (cornerAt decided)
+  pub undecided : cornerAt decided i ≡ 0
+  pub is-open : rowOf ways i c ≡ 1
+
+-- Walking on from site i.
+pub record MayWalk (n : ℕ) (xs ys : List ℕ) (side : HalfUnits) (ways decided marks : List ℕ) (i : ℕ) : Type 0 where
+  pub held : Held n xs ys side
+  pub sizes : Sizes ways decided
+  pub room : n ≤ length marks
+  pub walked : Walked (labels (side .0) n xs ys) i (rowOf ways) (cornerAt decided)
+
+-- Choosing at a side.
+pub record MayChoose (n : ℕ) (xs ys : List ℕ) (side : HalfUnits) (crowding : Crowding) (marks : List ℕ) : Type 0 where
+  pub held : Held n xs ys side
+  pub room : n ≤ length marks
+  pub crowding-is : CrowdingIs (sitesOf n xs ys) n crowding

@@ -1,0 +1,114 @@
+-- DESIGN section 4, T8: the greatest side, between one that has a good choice and one that has none.
+-- Assumes nothing.
+use mathlib.Core.Path.{_≡_, refl, sym, ap, _∙_, subst}
+use mathlib.Core.Bool.{Bool, true, false}
+use mathlib.Core.List.{List, [], _∷_, _++_}
+use mathlib.Core.Option.{Option, some, none}
+use Prim.Native.Nat.{ℕ, zero, suc, _+_, _-_, _≤_, _<_, zero-le, suc-le-suc}
+use native.Mathlib.Nat.{le-of-suc-le-suc}
+use native.Mathlib.Omega.{arith}
+use lib.ListN.{length, take, replicate}
+use Rattle.placing.specs.declared.choice.Chosen.{Chosen}
+use Rattle.placing.specs.declared.side.Placed.{Placed}
+use Rattle.placing.specs.declared.units.Place.{Place}
+use Rattle.placing.specs.declared.units.Side.{Side}
+use Rattle.placing.specs.declared.units.Side.the-variants.{Number, Free}
+use Rattle.placing.specs.rules.Units.{Distinct, freeSide, greatestSide}
+use Rattle.placing.specs.rules.Choice.{cornerAt, Good, First, Before, lower, later, good-one-exists}
+use Rattle.placing.specs.rules.Answer.{Answer, numbered, unbounded, answerOf, firstGood, firstGood-some, firstGood-none, answer-found, answer-free}
+use Rattle.placing.specs.code.Chosen.{whereYes, choiceIn}
+use Rattle.placing.specs.code.Placed.{placedAs}
+
+-- No list of corners comes before the one that has corner 1 everywhere.
+ones-first : (n : ℕ) (es : List ℕ) → ((i : ℕ) → i < n → 1 ≤ cornerAt es i) → Before es (replicate n 1) → ⊥
+ones-first (suc n) (e ∷ es) corner (lower h) = omega (arith, corner 0 (suc-le-suc zero-le))
+ones-first (suc n) (e ∷ es) corner (later b) = ones-first n es (λ i h. corner (suc i) (suc-le-suc h)) b
+
+-- At side 1 every choice is good, and corner 1 everywhere is the first.
+pub first-at-one : {ps : List Place} → Distinct ps → First 1 ps (replicate (length ps) 1)
+first-at-one {ps} distinct =
+    record {
+      good = good-one-exists distinct;
+      none-before = λ es good. ones-first (length ps) es (λ i h. good .corners .corner i h .least);
+    }
+
+-- Side low has a good choice, and these are the first one's corners; side high has none.
+pub record Between (ps : List Place) (n low high : ℕ) (corners : List ℕ) : Type 0 where
+  pub least : 1 ≤ low
+  pub apart : low < high
+  pub most : high ≤ freeSide
+  pub first : First low ps (take n corners)
+  pub no-good : (es : List ℕ) → Good high ps es → ⊥
+
+take-replicate : (n k : ℕ) → n ≤ k → _≡_ {A = List ℕ} (take n (replicate k 1)) (replicate n 1)
+take-replicate zero k h = refl
+take-replicate (suc n) zero h = absurd (omega arith)
+take-replicate (suc n) (suc k) h = ap (λ (l : List ℕ). 1 ∷ l) (take-replicate n k (le-of-suc-le-suc h))
+
+-- Where free is out, the search starts with sides 1 and 20,001.
+pub between-starts : {ps : List Place} {n : ℕ} → Distinct ps → length ps ≡ n → n ≤ 240 → firstGood freeSide ps ≡ none
+    → Between ps n 1 freeSide (replicate 240 1)
+between-starts {ps} {n} distinct count few not-free =
+    record {
+      least = omega arith;
+      apart = omega arith;
+      most = omega arith;
+      first = rw (take-replicate n 240 few, ← count) (first-at-one distinct);
+      no-good = firstGood-none not-free;
+    }
+
+module _ {ps : List Place} {n low high : ℕ} {corners : List ℕ} (between : Between ps n low high corners)
+    (middle : ℕ) (above : low < middle) (below : middle < high) (chosen : Chosen) (is : choiceIn n chosen ≡ firstGood middle ps) where
+  -- The middle has a good choice: it is the next lower end.
+  pub between-up : chosen .ok ≡ true → Between ps n middle high (chosen .corners)
+  between-up ok =
+      record {
+        least = omega (arith, between .least);
+        apart = below;
+        most = between .most;
+        first = firstGood-some (sym is ∙ ap (λ (b : Bool). whereYes b (take n (chosen .corners))) ok);
+        no-good = between .no-good;
+      }
+
+  -- It has none: it is the next upper end.
+  pub between-down : chosen .ok ≡ false → Between ps n low middle corners
+  between-down failed =
+      record {
+        least = between .least;
+        apart = above;
+        most = omega (arith, between .most);
+        first = between .first;
+        no-good = firstGood-none (sym is ∙ ap (λ (b : Bool). whereYes b (take n (chosen .corners))) failed);
+      }
+
+-- The record of an answer whose n corners are these.
+placed-corners : {side : Side} {ps : List Place} {h : ℕ} (n : ℕ) (corners : List ℕ) → length ps ≡ n → First h ps (take n corners)
+    → _≡_ {A = Placed} (record { side = side; corners = take n corners ++ replicate (240 - n) 0 })
+    (placedAs (record { side = side; corners = take n corners }))
+placed-corners n corners count first = rw (first .good .corners .one-each, count)
+
+-- Where the ends are one apart, the lower one is the answer.
+pub between-ends : {ps : List Place} {n low high : ℕ} {corners : List ℕ} → Distinct ps → length ps ≡ n
+    → Between ps n low high corners → high ≤ low + 1
+    → _≡_ {A = Placed} (record { side = Number (record { 0 = low }); corners = take n corners ++ replicate (240 - n) 0 })
+    (placedAs (answerOf ps))
+between-ends {ps} {n} {low} {high} {corners} distinct count between end =
+    placed-corners n corners count (between .first)
+    ∙ ap placedAs (sym (answer-found distinct (between .least) (omega (arith, between .most, between .apart)) (between .first) next))
+  where
+    next : (es : List ℕ) → Good (suc low) ps es → ⊥
+    next = let last : high ≡ suc low = omega (arith, between .apart) in rw last at (between .no-good)
+
+-- Where 20,001 has a good choice, the answer is free.
+pub free-placed : {ps : List Place} (n : ℕ) (chosen : Chosen) → Distinct ps → length ps ≡ n
+    → choiceIn n chosen ≡ firstGood freeSide ps → chosen .ok ≡ true
+    → _≡_ {A = Placed} (record { side = Free; corners = take n (chosen .corners) ++ replicate (240 - n) 0 }) (placedAs (answerOf ps))
+free-placed {ps} n chosen distinct count is ok =
+    let first : First freeSide ps (take n (chosen .corners)) =
+    firstGood-some (sym is ∙ ap (λ (b : Bool). whereYes b (take n (chosen .corners))) ok) in
+    placed-corners n (chosen .corners) count first ∙ ap placedAs (sym (answer-free distinct first))
+
+-- Where it has none, free is out.
+pub not-free : (ps : List Place) (n : ℕ) (chosen : Chosen) → choiceIn n chosen ≡ firstGood freeSide ps → chosen .ok ≡ false
+    → firstGood freeSide ps ≡ none
+not-free ps n chosen is failed = sym is ∙ ap (λ (b : Bool). whereYes b (take n (chosen .corners))) failed

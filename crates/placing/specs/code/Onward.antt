@@ -1,0 +1,133 @@
+-- A trial on the bytes of a state (specs/Ways): it takes a corner, then carries out one decision after another, with a table of
+-- marks, until a site is left with no corner or no decision waits. The laws of specs/Trial do the work.
+-- Assumes nothing.
+use mathlib.Core.Path.{_≡_, sym, ap}
+use mathlib.Core.Bool.{Bool, true, false, true≢false}
+use mathlib.Core.List.{List}
+use mathlib.Core.Logic.{_≢_}
+use Prim.Native.Nat.{ℕ, _≤_, _<_}
+use native.Mathlib.Omega.{arith}
+use lib.ListN.{length, set, length-set}
+use lib.Seq.{getD-set-same, getD-set-other}
+use Rattle.placing.specs.rules.Corner.{Corner}
+use Rattle.placing.specs.rules.Choice.{cornerAt}
+use Rattle.placing.specs.search.Problem.{Problem}
+use Rattle.placing.specs.search.State.{Underway, Closed, Onward, Took}
+use Rattle.placing.specs.search.Trial.{trial-begins, trial-onward-start, carried-underway, carried-onward, stuck-refused, trial-closed}
+use Rattle.placing.specs.code.Ways.{rowOf, Sizes, AllSettled, TakenCorner, CarriedOut, FirstWaiting, Kept, Marked, CarriedOn, Tried}
+use Rattle.placing.specs.code.Marks.{kept-same, kept-set}
+
+-- Some decisions have been carried out since the state ways₀, decided₀: the marked ones.
+pub record CarryingOn (P : Problem) (ways₀ decided₀ marks₀ ways decided marks : List ℕ) : Type 0 where
+  pub sizes : Sizes ways decided
+  pub room : P .n ≤ length marks
+  pub kept : Kept (P .n) marks₀ marks
+  pub underway : Underway P (rowOf ways) (cornerAt decided) (cornerAt marks)
+  pub onward : (op : ℕ → ℕ → ℕ) (dec : ℕ → ℕ) (i c : ℕ) → i < P .n → c ≢ 0
+      → Onward P op dec i c (rowOf ways₀) (cornerAt decided₀) → Onward P op dec i c (rowOf ways) (cornerAt decided)
+
+-- Carrying on starts with the state as it is.
+pub carrying-starts : {P : Problem} {ways decided marks : List ℕ} → Sizes ways decided → P .n ≤ length marks
+    → Underway P (rowOf ways) (cornerAt decided) (cornerAt marks) → CarryingOn P ways decided marks ways decided marks
+carrying-starts sizes room underway =
+    record {
+      sizes = sizes;
+      room = room;
+      kept = kept-same;
+      underway = underway;
+      onward = λ op dec i c h some onward. onward;
+    }
+
+module _ {P : Problem} {ways₀ decided₀ marks₀ ways decided marks : List ℕ}
+    (so-far : CarryingOn P ways₀ decided₀ marks₀ ways decided marks) where
+  -- The decided corner of every decided site alone is open.
+  pub carrying-settled : AllSettled (P .n) ways decided
+  carrying-settled =
+      record {
+        all-settled = λ j h. record {
+          settled = λ d. record {
+            is-open = so-far .underway .decided-open j h d;
+            alone = λ e. so-far .underway .decided-alone j e h d;
+          };
+        };
+      }
+
+  -- Where no decision waits, the trial has carried on.
+  pub carrying-ends : {k : ℕ} → FirstWaiting decided marks (P .n) k → k ≡ P .n → CarriedOn P ways₀ decided₀ true ways decided
+  carrying-ends first none =
+      record {
+        sizes = so-far .sizes;
+        closed = λ e. trial-closed (so-far .underway) (first .none-waits none);
+        onward = λ e. so-far .onward;
+        refused = λ e. absurd (true≢false e);
+      }
+
+  module _ {k : ℕ} (listed : k < P .n) (is-decided : cornerAt decided k ≢ 0) where
+    -- What is decided is a corner.
+    pub carrying-corner : Corner (cornerAt decided k)
+    carrying-corner =
+        P .corner k (cornerAt decided k)
+        (so-far .underway .candidate k (cornerAt decided k) listed (so-far .underway .decided-open k listed is-decided))
+
+    module _ {ok : Bool} {ways′ decided′ : List ℕ} (out : CarriedOut P ways decided k ok ways′ decided′) where
+      -- After the decision of site k is carried out and k is marked, the trial goes on ..
+      pub carrying-on : ok ≡ true → CarryingOn P ways₀ decided₀ marks₀ ways′ decided′ (set marks k 1)
+      carrying-on went =
+          let carried = out .carried went in
+          record {
+            sizes = out .sizes;
+            room = rw length-set (so-far .room);
+            kept = kept-set 1 listed (so-far .kept);
+            underway = carried-underway (so-far .underway) listed is-decided carried
+                (getD-set-same marks k 1 0 (omega arith)) (λ j h different. getD-set-other marks k j 1 0 different);
+            onward = λ op dec i c h some onward.
+                carried-onward (so-far .underway) listed is-decided carried h some (so-far .onward op dec i c h some onward);
+          }
+
+      -- .. and where a site is left with no corner, it has failed.
+      pub carrying-stuck : ok ≡ false → CarriedOn P ways₀ decided₀ false ways′ decided′
+      carrying-stuck failed =
+          record {
+            sizes = out .sizes;
+            closed = λ e. absurd (true≢false (sym e));
+            onward = λ e. absurd (true≢false (sym e));
+            refused = λ e op dec i c h some onward.
+                stuck-refused (so-far .underway) listed is-decided (out .stuck failed) (so-far .onward op dec i c h some onward);
+          }
+
+module _ {P : Problem} {ways decided ways′ decided′ marks : List ℕ} {i c : ℕ}
+    (closed : Closed P (rowOf ways) (cornerAt decided)) (listed : i < P .n) (undecided : cornerAt decided i ≡ 0)
+    (is-open : rowOf ways i c ≡ 1) (taken : TakenCorner ways decided i c ways′ decided′) (marked : Marked decided (P .n) marks) where
+  -- A trial starts by taking a corner, with the sites decided before marked.
+  took : Took P (rowOf ways) (cornerAt decided) i c (rowOf ways′) (cornerAt decided′) (cornerAt marks)
+  took =
+      record {
+        takes = taken .takes;
+        is-open = taken .lone .is-open;
+        alone = taken .lone .alone;
+        others-open = λ j e h different. ap (λ (row : ℕ → ℕ). row e) (taken .elsewhere j different);
+        others-decided = λ j h. taken .decided-elsewhere j;
+        marked = marked .marked;
+        unmarked = marked .unmarked;
+      }
+
+  -- Then it is under way ..
+  pub taken-underway : Underway P (rowOf ways′) (cornerAt decided′) (cornerAt marks)
+  taken-underway = trial-begins closed listed undecided is-open took
+
+  -- .. and once it has carried on, the corner has been tried.
+  pub taken-tried : {ok : Bool} {ways″ decided″ : List ℕ} → CarriedOn P ways′ decided′ ok ways″ decided″
+      → Tried P ways decided i c ok ways″ decided″
+  taken-tried on =
+      record {
+        sizes = on .sizes;
+        closed = on .closed;
+        onward = λ e. on .onward e (rowOf ways) (cornerAt decided) i c listed some start;
+        refused = λ e. on .refused e (rowOf ways) (cornerAt decided) i c listed some start;
+      }
+    where
+      some : c ≢ 0
+      some = let corner = P .corner i c (closed .candidate i c listed is-open) in omega arith
+
+      start : Onward P (rowOf ways) (cornerAt decided) i c (rowOf ways′) (cornerAt decided′)
+      start = trial-onward-start closed listed undecided is-open took

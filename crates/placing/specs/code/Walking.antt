@@ -1,0 +1,92 @@
+-- One site of the walk: its corners are tried from the lowest up, until a trial does not fail.
+-- Assumes nothing.
+use mathlib.Core.Path.{_≡_, refl, sym, _∙_, ap, subst}
+use mathlib.Core.Bool.{Bool, true, false}
+use mathlib.Core.List.{List}
+use mathlib.Core.Logic.{_≢_}
+use Prim.Native.Nat.{ℕ, zero, suc, _+_, _*_, _≤_, _<_}
+use native.Mathlib.Nat.{add-zero}
+use native.Mathlib.Decide.{decLe}
+use native.Mathlib.Omega.{arith}
+use lib.ListN.{getD}
+use Rattle.placing.specs.rules.Choice.{cornerAt}
+use Rattle.placing.specs.search.Problem.{Problem, Solution}
+use Rattle.placing.specs.search.State.{Refused, Walked}
+use Rattle.placing.specs.search.Walk.{refused-closed, walk-takes, walk-stuck}
+use Rattle.placing.specs.code.Ways.{rowOf, Tried, WalkedTo, Sizes}
+
+-- The byte of corner e + 1 of site i.
+pub row-next : (ways : List ℕ) (i e : ℕ) → e < 4 → rowOf ways i (e + 1) ≡ getD ways (4 * i + e) 0
+unfolding rowOf
+row-next ways i zero h = ap (λ (k : ℕ). getD ways k 0) (sym (add-zero (4 * i)))
+row-next ways i (suc zero) h = refl
+row-next ways i (suc (suc zero)) h = refl
+row-next ways i (suc (suc (suc zero))) h = refl
+row-next ways i (suc (suc (suc (suc e)))) h = absurd (omega arith)
+
+-- The corners of site i up to e are refused.
+pub record RefusedUpTo (P : Problem) (ways : List ℕ) (i e : ℕ) : Type 0 where
+  pub refused : (c : ℕ) → c ≤ e → Refused P (rowOf ways) i c
+
+-- There is no corner 0.
+pub refused-none : {P : Problem} {i : ℕ} (ways : List ℕ) → i < P .n → RefusedUpTo P ways i 0
+unfolding rowOf
+refused-none {P} {i} ways listed =
+    record { refused = λ c none. refused-closed listed (λ o. let z : c ≡ 0 = omega arith in absurd (closed (rw z at o))) }
+  where
+    closed : rowOf ways i 0 ≡ 1 → ⊥
+    closed o = omega arith
+
+pub refused-more : {P : Problem} {ways : List ℕ} {i : ℕ} (e : ℕ) → RefusedUpTo P ways i e → Refused P (rowOf ways) i (e + 1) → RefusedUpTo P ways i (e + 1)
+refused-more {P} {ways} {i} e before next = record { refused = λ c h. from c h (decLe c e) }
+  where
+    from : (c : ℕ) → c ≤ e + 1 → Dec (c ≤ e) → Refused P (rowOf ways) i c
+    from c h (yes k) = before .refused c k
+    from c h (no k) = let last : c ≡ e + 1 = omega arith in rw last next
+
+-- A corner whose byte is not 1 is refused.
+pub refused-byte : {P : Problem} {ways : List ℕ} {i : ℕ} (e : ℕ) → i < P .n → e < 4 → getD ways (4 * i + e) 0 ≢ 1 → RefusedUpTo P ways i e → RefusedUpTo P ways i (e + 1)
+refused-byte {P} {ways} {i} e listed h shut before =
+    refused-more e before (refused-closed listed (λ o. shut (sym (row-next ways i e h) ∙ o)))
+
+-- The first corner whose trial does not fail is taken.
+pub takes-corner : {P : Problem} {ways decided ways′ decided′ : List ℕ} {i : ℕ} (e : ℕ) {ok : Bool} → Walked P i (rowOf ways) (cornerAt decided)
+    → i < P .n → cornerAt decided i ≡ 0 → RefusedUpTo P ways i e → Tried P ways decided i (e + 1) ok ways′ decided′ → ok ≡ true
+    → WalkedTo P (i + 1) ok ways′ decided′
+takes-corner e walked listed undecided before tried yes-ok =
+    record {
+      sizes = tried .sizes;
+      walked = λ o.
+          walk-takes walked listed undecided (λ c h. before .refused c (omega arith)) (tried .closed o) (tried .onward o) (omega arith);
+      no-solution = λ o. let both : true ≡ false = sym yes-ok ∙ o in absurd (let z : _≡_ {A = ℕ} 0 1 = cc in omega arith);
+    }
+
+-- Where every corner is refused there is no solution.
+pub takes-none : {P : Problem} {ways decided : List ℕ} {i e : ℕ} → Sizes ways decided → Walked P i (rowOf ways) (cornerAt decided) → i < P .n
+    → 4 ≤ e → RefusedUpTo P ways i e → WalkedTo P (i + 1) false ways decided
+takes-none sizes walked listed all before =
+    record {
+      sizes = sizes;
+      walked = λ o. let z : _≡_ {A = ℕ} 0 1 = cc in absurd (omega arith);
+      no-solution = λ o. walk-stuck walked listed (λ c corner. before .refused c (omega arith));
+    }
+
+-- A walk that found no solution found none for any site.
+pub walk-over : {P : Problem} {i : ℕ} {ok : Bool} {ways decided : List ℕ} (n : ℕ) → ok ≡ false → WalkedTo P i ok ways decided
+    → WalkedTo P n ok ways decided
+walk-over n failed walked =
+    record {
+      sizes = walked .sizes;
+      walked = λ o. let z : _≡_ {A = ℕ} 0 1 = cc in absurd (omega arith);
+      no-solution = walked .no-solution;
+    }
+
+-- A walk past all sites.
+pub walked-all : {P : Problem} {i : ℕ} {ways decided : List ℕ} → i ≡ P .n → Sizes ways decided → Walked P i (rowOf ways) (cornerAt decided)
+    → WalkedTo P (P .n) true ways decided
+walked-all {P} {i} {ways} {decided} end sizes walked =
+    record {
+      sizes = sizes;
+      walked = λ o. subst (λ (k : ℕ). Walked P k (rowOf ways) (cornerAt decided)) end walked;
+      no-solution = λ o. let z : _≡_ {A = ℕ} 0 1 = cc in absurd (omega arith);
+    }

@@ -1,0 +1,197 @@
+-- The state of a search as a trial holds it: 960 bytes, four for each site, 1 where the corner is open, and 240 bytes with the
+-- decided corners, 0 for none. What one step of the code does to them, for the laws of specs/Trial and specs/Walk to use.
+-- Assumes nothing.
+use mathlib.Core.Path.{_≡_, refl, ap, _∙_, fun-ext}
+use mathlib.Core.Bool.{Bool, true, false}
+use mathlib.Core.List.{List}
+use mathlib.Core.Logic.{_≢_, _⊎_}
+use Prim.Native.Nat.{ℕ, zero, suc, _+_, _-_, _*_, _≤_, _<_}
+use native.Mathlib.Omega.{arith}
+use lib.ListN.{length, getD, set, drop}
+use lib.Seq.{getD-set-same, getD-set-other}
+use Rattle.placing.specs.declared.trial.Left.{Left}
+use Rattle.placing.specs.declared.trial.Left.the-variants.{Nothing, One, More}
+use Rattle.placing.specs.rules.Corner.{Corner}
+use Rattle.placing.specs.rules.Choice.{cornerAt}
+use Rattle.placing.specs.search.Problem.{Problem, Solution}
+use Rattle.placing.specs.search.State.{TwoOpen, CarriedTo, Carried, Stuck, Closed, Onward, Refused, Walked}
+
+-- Of four bytes, the one for corner c; 0 where c is no corner.
+abbrev pub rowAt : ℕ → ℕ → ℕ → ℕ → ℕ → ℕ
+rowAt a b c d zero = 0
+rowAt a b c d (suc zero) = a
+rowAt a b c d (suc (suc zero)) = b
+rowAt a b c d (suc (suc (suc zero))) = c
+rowAt a b c d (suc (suc (suc (suc zero)))) = d
+rowAt a b c d (suc (suc (suc (suc (suc e))))) = 0
+
+-- The four bytes of site i, by corner.
+unfoldable pub rowOf : List ℕ → ℕ → ℕ → ℕ
+rowOf ways i = rowAt (getD ways (4 * i) 0) (getD ways (4 * i + 1) 0) (getD ways (4 * i + 2) 0) (getD ways (4 * i + 3) 0)
+
+-- No site has a corner 0.
+pub row-zero : (ways : List ℕ) (i : ℕ) → rowOf ways i 0 ≡ 0
+unfolding rowOf
+row-zero ways i = refl
+
+-- Where a corner's byte stands.
+pub row-at : (ways : List ℕ) (i c : ℕ) → Corner c → rowOf ways i c ≡ getD ways (4 * i + (c - 1)) 0
+unfolding rowOf
+row-at ways i zero corner = absurd (omega arith)
+row-at ways i (suc zero) corner = ap (λ n. getD ways n 0) (omega arith)
+row-at ways i (suc (suc zero)) corner = refl
+row-at ways i (suc (suc (suc zero))) corner = refl
+row-at ways i (suc (suc (suc (suc zero)))) corner = refl
+row-at ways i (suc (suc (suc (suc (suc c))))) corner = absurd (omega arith)
+
+-- A byte that is written stands at its corner.
+pub row-written : (ways : List ℕ) (i c v : ℕ) → Corner c → 4 * i + (c - 1) < length ways
+    → rowOf (set ways (4 * i + (c - 1)) v) i c ≡ v
+row-written ways i c v corner fits =
+    row-at (set ways (4 * i + (c - 1)) v) i c corner ∙ getD-set-same ways (4 * i + (c - 1)) v 0 fits
+
+-- A byte that is written elsewhere leaves a corner as it is.
+row-other : (ways : List ℕ) (n v i e : ℕ) → (Corner e → 4 * i + (e - 1) ≢ n) → rowOf (set ways n v) i e ≡ rowOf ways i e
+unfolding rowOf
+row-other ways n v i zero other = refl
+row-other ways n v i (suc zero) other = getD-set-other ways n (4 * i) v 0 (λ p. other (omega arith) (omega arith))
+row-other ways n v i (suc (suc zero)) other = getD-set-other ways n (4 * i + 1) v 0 (λ p. other (omega arith) p)
+row-other ways n v i (suc (suc (suc zero))) other = getD-set-other ways n (4 * i + 2) v 0 (λ p. other (omega arith) p)
+row-other ways n v i (suc (suc (suc (suc zero)))) other = getD-set-other ways n (4 * i + 3) v 0 (λ p. other (omega arith) p)
+row-other ways n v i (suc (suc (suc (suc (suc e))))) other = refl
+
+-- A byte that is written at one corner leaves the site's others as they are.
+pub row-kept : (ways : List ℕ) (i c v e : ℕ) → Corner c → e ≢ c → rowOf (set ways (4 * i + (c - 1)) v) i e ≡ rowOf ways i e
+row-kept ways i c v e corner different = row-other ways (4 * i + (c - 1)) v i e (λ there same. different (omega arith))
+
+-- A byte that is written at site i leaves other sites as they are.
+pub row-elsewhere : (ways : List ℕ) (i n v j : ℕ) → 4 * i ≤ n → n ≤ 4 * i + 3 → j ≢ i → rowOf (set ways n v) j ≡ rowOf ways j
+row-elsewhere ways i n v j from to different =
+    fun-ext (λ e. row-other ways n v j e (λ corner same. different (omega arith)))
+
+pub record Sizes (ways decided : List ℕ) : Type 0 where
+  pub ways-size : length ways ≡ 960
+  pub decided-size : length decided ≡ 240
+
+-- Corner c alone is open.
+pub record Lone (row : ℕ → ℕ) (c : ℕ) : Type 0 where
+  pub is-open : row c ≡ 1
+  pub alone : (e : ℕ) → row e ≡ 1 → e ≡ c
+
+pub record NoneOpen (row : ℕ → ℕ) : Type 0 where
+  pub none-open : (e : ℕ) → row e ≡ 1 → ⊥
+
+pub record SomeOpen (row : ℕ → ℕ) : Type 0 where
+  pub one : ℕ
+  pub two : ℕ
+  pub differ : one ≢ two
+  pub one-open : row one ≡ 1
+  pub two-open : row two ≡ 1
+
+-- What holds of each open corner of four bytes holds of every open one.
+by-corner : (Q : ℕ → Type 0) (a b c d : ℕ) → (a ≡ 1 → Q 1) → (b ≡ 1 → Q 2) → (c ≡ 1 → Q 3) → (d ≡ 1 → Q 4)
+    → (e : ℕ) → rowAt a b c d e ≡ 1 → Q e
+by-corner Q a b c d at-a at-b at-c at-d zero h = absurd (omega arith)
+by-corner Q a b c d at-a at-b at-c at-d (suc zero) h = at-a h
+by-corner Q a b c d at-a at-b at-c at-d (suc (suc zero)) h = at-b h
+by-corner Q a b c d at-a at-b at-c at-d (suc (suc (suc zero))) h = at-c h
+by-corner Q a b c d at-a at-b at-c at-d (suc (suc (suc (suc zero)))) h = at-d h
+by-corner Q a b c d at-a at-b at-c at-d (suc (suc (suc (suc (suc e))))) h = absurd (omega arith)
+
+-- Corner k alone is open, by four bytes.
+pub lone-row : (a b c d k : ℕ) → (rowAt a b c d k ≡ 1) × (a ≡ 1 → 1 ≡ k) × (b ≡ 1 → 2 ≡ k) × (c ≡ 1 → 3 ≡ k) × (d ≡ 1 → 4 ≡ k)
+    → Lone (rowAt a b c d) k
+lone-row a b c d k h = record { is-open = h .0; alone = by-corner (λ e. e ≡ k) a b c d (h .1) (h .2) (h .3) (h .4) }
+
+-- No corner is open, by four bytes.
+pub none-row : (a b c d : ℕ) → (a ≢ 1) × (b ≢ 1) × (c ≢ 1) × (d ≢ 1) → NoneOpen (rowAt a b c d)
+none-row a b c d h = record { none-open = by-corner (λ e. ⊥) a b c d (h .0) (h .1) (h .2) (h .3) }
+
+-- Two corners are open.
+pub some-row : {row : ℕ → ℕ} (e f : ℕ) → (e ≢ f) × (row e ≡ 1) × (row f ≡ 1) → SomeOpen row
+some-row e f h = record { one = e; two = f; differ = h .0; one-open = h .1; two-open = h .2 }
+
+-- What the count of a site's open corners says.
+abbrev pub LeftIs : Left → (ℕ → ℕ) → Type 0
+LeftIs Nothing row = NoneOpen row
+LeftIs (One c) row = Lone row c
+LeftIs More row = SomeOpen row
+
+-- Corner c of site i was taken: it alone is open, and decided.
+pub record TakenCorner (ways decided : List ℕ) (i c : ℕ) (ways′ decided′ : List ℕ) : Type 0 where
+  pub sizes : Sizes ways′ decided′
+  pub lone : Lone (rowOf ways′ i) c
+  pub takes : cornerAt decided′ i ≡ c
+  pub elsewhere : (j : ℕ) → j ≢ i → rowOf ways′ j ≡ rowOf ways j
+  pub decided-elsewhere : (j : ℕ) → j ≢ i → cornerAt decided′ j ≡ cornerAt decided j
+
+-- Corner c of site j was closed, and the site decided if one corner is left.
+pub record ClosedCorner (ways decided : List ℕ) (j c : ℕ) (ok : Bool) (ways′ decided′ : List ℕ) : Type 0 where
+  pub sizes : Sizes ways′ decided′
+  pub shut : rowOf ways′ j c ≢ 1
+  pub kept : (e : ℕ) → e ≢ c → rowOf ways′ j e ≡ rowOf ways j e
+  pub elsewhere : (i : ℕ) → i ≢ j → rowOf ways′ i ≡ rowOf ways i
+  pub decided-elsewhere : (i : ℕ) → i ≢ j → cornerAt decided′ i ≡ cornerAt decided i
+  pub none-left : ok ≡ false → NoneOpen (rowOf ways′ j)
+  pub some-left : ok ≡ true
+      → Lone (rowOf ways′ j) (cornerAt decided′ j) ⊎ (SomeOpen (rowOf ways′ j) × (cornerAt decided′ j ≡ cornerAt decided j))
+
+-- Where site j is decided, its decided corner alone is open.
+pub record Settled (ways decided : List ℕ) (j : ℕ) : Type 0 where
+  pub settled : cornerAt decided j ≢ 0 → Lone (rowOf ways j) (cornerAt decided j)
+
+pub record AllSettled (n : ℕ) (ways decided : List ℕ) : Type 0 where
+  pub all-settled : (j : ℕ) → j < n → Settled ways decided j
+
+-- The decision of site k was carried to site j.
+pub record CarriedThere (P : Problem) (ways decided : List ℕ) (k j : ℕ) (ok : Bool) (ways′ decided′ : List ℕ) : Type 0 where
+  pub sizes : Sizes ways′ decided′
+  pub elsewhere : (i : ℕ) → i ≢ j → rowOf ways′ i ≡ rowOf ways i
+  pub decided-elsewhere : (i : ℕ) → i ≢ j → cornerAt decided′ i ≡ cornerAt decided i
+  pub carried : ok ≡ true → CarriedTo P (rowOf ways) (cornerAt decided) k j (rowOf ways′) (cornerAt decided′)
+  pub stuck : ok ≡ false → (e : ℕ) → rowOf ways j e ≡ 1 → P .Conflict k (cornerAt decided k) j e
+
+-- The decision of site k was carried to every other site, or a site was left with no corner.
+pub record CarriedOut (P : Problem) (ways decided : List ℕ) (k : ℕ) (ok : Bool) (ways′ decided′ : List ℕ) : Type 0 where
+  pub sizes : Sizes ways′ decided′
+  pub carried : ok ≡ true → Carried P (rowOf ways) (cornerAt decided) k (rowOf ways′) (cornerAt decided′)
+  pub stuck : ok ≡ false → Stuck P (rowOf ways) (cornerAt decided) k
+
+-- The first decided site that is not marked, or n.
+pub record FirstWaiting (decided marks : List ℕ) (n k : ℕ) : Type 0 where
+  pub at-most : k ≤ n
+  pub found-decided : k < n → cornerAt decided k ≢ 0
+  pub found-unmarked : k < n → getD marks k 0 ≢ 1
+  pub none-waits : k ≡ n → (j : ℕ) → j < n → cornerAt decided j ≢ 0 → getD marks j 0 ≡ 1
+
+-- The bytes of a lent table from n on are as they were, and so is its length.
+pub record Kept (n : ℕ) (table table′ : List ℕ) : Type 0 where
+  pub size : length table′ ≡ length table
+  pub rest : drop n table′ ≡ drop n table
+
+-- Exactly the decided sites are marked.
+pub record Marked (decided : List ℕ) (n : ℕ) (marks : List ℕ) : Type 0 where
+  pub marked : (j : ℕ) → j < n → cornerAt decided j ≢ 0 → getD marks j 0 ≡ 1
+  pub unmarked : (j : ℕ) → j < n → cornerAt decided j ≡ 0 → getD marks j 0 ≢ 1
+
+-- All decisions were carried out, or a site was left with no corner.
+pub record CarriedOn (P : Problem) (ways decided : List ℕ) (ok : Bool) (ways′ decided′ : List ℕ) : Type 0 where
+  pub sizes : Sizes ways′ decided′
+  pub closed : ok ≡ true → Closed P (rowOf ways′) (cornerAt decided′)
+  pub onward : ok ≡ true → (op : ℕ → ℕ → ℕ) (dec : ℕ → ℕ) (i c : ℕ) → i < P .n → c ≢ 0
+      → Onward P op dec i c (rowOf ways) (cornerAt decided) → Onward P op dec i c (rowOf ways′) (cornerAt decided′)
+  pub refused : ok ≡ false → (op : ℕ → ℕ → ℕ) (dec : ℕ → ℕ) (i c : ℕ) → i < P .n → c ≢ 0
+      → Onward P op dec i c (rowOf ways) (cornerAt decided) → Refused P op i c
+
+-- Corner c of site i was tried.
+pub record Tried (P : Problem) (ways decided : List ℕ) (i c : ℕ) (ok : Bool) (ways′ decided′ : List ℕ) : Type 0 where
+  pub sizes : Sizes ways′ decided′
+  pub closed : ok ≡ true → Closed P (rowOf ways′) (cornerAt decided′)
+  pub onward : ok ≡ true → Onward P (rowOf ways) (cornerAt decided) i c (rowOf ways′) (cornerAt decided′)
+  pub refused : ok ≡ false → Refused P (rowOf ways) i c
+
+-- The walk went on to site i, or there is no solution.
+pub record WalkedTo (P : Problem) (i : ℕ) (ok : Bool) (ways decided : List ℕ) : Type 0 where
+  pub sizes : Sizes ways decided
+  pub walked : ok ≡ true → Walked P i (rowOf ways) (cornerAt decided)
+  pub no-solution : ok ≡ false → (f : ℕ → ℕ) → Solution P f → ⊥

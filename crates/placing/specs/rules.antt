@@ -1,0 +1,9 @@
+-- The rules of document 01 for placing labels, in the document's order: what a reader is asked to believe.
+pub mod Units
+pub mod Corner
+pub mod Cover
+pub mod Meet
+pub mod Crowd
+pub mod Choice
+pub mod Enumerate
+pub mod Answer

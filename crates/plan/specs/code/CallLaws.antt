@@ -1,0 +1,206 @@
+-- The answers of the calls, test by test.
+-- Assumes nothing.
+use mathlib.Core.Path.{_≡_, refl, sym, ap, ap₂, _∙_, subst}
+use mathlib.Core.Bool.{Bool, true, false, false≢true}
+use mathlib.Core.List.{List, [], _∷_, _++_}
+use Prim.Native.Nat.{ℕ, _*_, _≤_, _<_}
+use native.Mathlib.Omega.{arith}
+use borrow.Author.Tests.{eq-eqb, ne-eqb, lt-ltb, le-ltb, le-leb, lt-leb}
+use lib.Dec.{leb}
+use lib.ListN.{length, getD, drop, replicate}
+use Rattle.placing.specs.rules.Units.{greatestCoordinate}
+use Rattle.placing.specs.rules.Choice.{cornerAt}
+use Rattle.plan.specs.declared.name.NameRead.{NameRead}
+use Rattle.plan.specs.declared.refusal.Outcome.the-variants.{Done, Refused}
+use Rattle.plan.specs.declared.refusal.Refusal.{Refusal}
+use Rattle.plan.specs.declared.refusal.Refusal.the-variants as refusal
+use Rattle.plan.specs.declared.plan.Plan.{Plan}
+use Rattle.plan.specs.declared.plan.Planned.{Planned}
+use Rattle.plan.specs.declared.plan.AskedSide.the-variants.{SideIs, NoSide}
+use Rattle.plan.specs.declared.plan.AskedCorner.the-variants.{CornerIs, NoCorner}
+use Rattle.plan.specs.rules.Name.{bytesOf, nameOf, isName, name-short, name-held}
+use Rattle.plan.specs.code.NameRead.{nameRead, nameWhere}
+use Rattle.plan.specs.rules.Site.{Site, placeAt, nameTaken, placeTaken, Listed}
+use Rattle.plan.specs.rules.Enter.{Sites, accepted, refused, appended, entered}
+use Rattle.plan.specs.rules.Plan.{unplaced, placed, sitesIn, sites-unplaced, sites-placed, Valid, is-unplaced, is-placed}
+use Rattle.plan.specs.rules.Calls.{plannedOr, placedIn, tableAfter, clearedWhere, answerFor, sideWhere, sideAsked, cornerWhere, cornerAsked}
+use Rattle.plan.specs.rules.Calls.{outcomeNumber, placeNumber}
+use Rattle.plan.specs.theorems.Numbers.{place-number}
+use Rattle.plan.specs.code.PlanLaws.{Holding, valid-side, valid-corner}
+
+-- ---- answers
+
+-- A refusal with this plan.
+abbrev pub refusal-of : Plan → Refusal → Planned
+refusal-of plan why = record { outcome = Refused why; plan = plan }
+
+-- Refused, a call hands back the plan as it came.
+pub refuses : {plan : Plan} {why : Refusal} {r : Planned} {sites : Sites} → Valid plan → r ≡ refusal-of plan why → sites ≡ refused why
+    → (r ≡ plannedOr plan sites) × Valid (r .plan)
+refuses {plan} {why} {r} {sites} valid is-refused why-refused =
+    (is-refused ∙ sym (ap (plannedOr plan) why-refused), subst (λ (p : Planned). Valid (p .plan)) (sym is-refused) valid)
+
+-- Accepted, it hands back the plan of the sites afterwards.
+pub accepts : (plan : Plan) {after : Plan} {sites : Sites} {more : List Site} → Listed more → after ≡ unplaced more → sites ≡ accepted more
+    → (record { outcome = Done; plan = after } ≡ plannedOr plan sites) × Valid after
+accepts plan {after} {sites} {more} listed same is-accepted = (
+  ap {B = Planned} (λ (p : Plan). record { outcome = Done; plan = p }) same ∙ sym (ap (plannedOr plan) is-accepted),
+  subst Valid (sym same) (is-unplaced more listed),
+)
+
+-- ---- one site more: tests 7, 4, 5
+
+module _ (sites : List Site) (site : Site) where
+  -- 240 sites stand.
+  pub appended-full : 240 ≤ length sites → appended sites site ≡ refused refusal.Full
+  unfolding appended
+  appended-full full = rw (le-leb 240 (length sites) full)
+
+  -- The name is taken.
+  pub appended-named : length sites < 240 → nameTaken sites (site .name) ≡ true → appended sites site ≡ refused refusal.NameTaken
+  unfolding appended
+  appended-named room taken = rw (lt-leb 240 (length sites) room, taken)
+
+  -- The place is taken.
+  pub appended-placed : length sites < 240 → nameTaken sites (site .name) ≡ false → placeTaken sites (site .place) ≡ true
+      → appended sites site ≡ refused refusal.PlaceTaken
+  unfolding appended
+  appended-placed room free taken = rw (lt-leb 240 (length sites) room, free, taken)
+
+  -- None of these: the site stands last.
+  pub appended-last : length sites < 240 → nameTaken sites (site .name) ≡ false → placeTaken sites (site .place) ≡ false
+      → appended sites site ≡ accepted (sites ++ (site ∷ []))
+  unfolding appended
+  appended-last room free open-place = rw (lt-leb 240 (length sites) room, free, open-place)
+
+-- ---- entering: tests 2, 3, then these
+
+module _ (sites : List Site) (name : List ℕ) (x y : ℕ) where
+  -- The name is outside the rule.
+  pub entered-unnamed : isName name ≡ false → entered sites name x y ≡ refused refusal.Name
+  unfolding entered
+  entered-unnamed no-name = rw no-name
+
+  -- x is outside the rule,
+  pub entered-far-x : isName name ≡ true → greatestCoordinate < x → entered sites name x y ≡ refused refusal.Coordinate
+  unfolding entered
+  entered-far-x named far = rw (named, lt-leb x greatestCoordinate far)
+
+  -- or y is.
+  pub entered-far-y : isName name ≡ true → x ≤ greatestCoordinate → greatestCoordinate < y → entered sites name x y ≡ refused refusal.Coordinate
+  unfolding entered
+  entered-far-y named near far = rw (named, le-leb x greatestCoordinate near, lt-leb y greatestCoordinate far)
+
+  -- None of these: one site more.
+  pub entered-near : isName name ≡ true → x ≤ greatestCoordinate → y ≤ greatestCoordinate
+      → entered sites name x y ≡ appended sites (record { name = name; place = placeAt x y })
+  unfolding entered
+  entered-near named near-x near-y = rw (named, le-leb x greatestCoordinate near-x, le-leb y greatestCoordinate near-y)
+
+-- What was read is a name where the bytes are one,
+pub read-ok : {read : NameRead} (bytes : List ℕ) → read ≡ nameRead bytes → isName bytes ≡ read .ok
+read-ok bytes same = sym (ap (λ (r : NameRead). r .ok) same)
+
+-- and then it is the record of this name
+pub read-name : {read : NameRead} (bytes : List ℕ) → read ≡ nameRead bytes → isName bytes ≡ true → read .name ≡ nameOf bytes
+read-name {read} bytes same named = ap (λ (r : NameRead). r .name) same ∙ ap (λ (b : Bool). nameWhere b bytes) named
+
+-- and holds these bytes.
+pub read-bytes : {read : NameRead} (bytes : List ℕ) → read ≡ nameRead bytes → isName bytes ≡ true → bytesOf (read .name) ≡ bytes
+read-bytes {read} bytes same named = ap bytesOf (read-name bytes same named) ∙ name-held bytes (name-short bytes named)
+
+-- ---- placing: tests 8, 11
+
+module _ (plan : Plan) (table : List ℕ) where
+  -- There are no sites.
+  pub placed-none : plan .count ≡ 0 → placedIn plan table ≡ refusal-of plan refusal.NoSites
+  placed-none none = rw (eq-eqb (plan .count) 0 none)
+
+  -- The table is short.
+  pub placed-short : (plan .count ≡ 0 → ⊥) → length table < plan .count * plan .count → placedIn plan table ≡ refusal-of plan refusal.ShortTable
+  placed-short some short = rw (ne-eqb (plan .count) 0 some, lt-ltb (length table) (plan .count * plan .count) short)
+
+  -- None of these: the plan is placed.
+  pub placed-done : (plan .count ≡ 0 → ⊥) → plan .count * plan .count ≤ length table
+      → placedIn plan table ≡ record { outcome = Done; plan = placed (sitesIn plan) }
+  placed-done some room = rw (ne-eqb (plan .count) 0 some, le-ltb (length table) (plan .count * plan .count) room)
+
+  -- Refused, placing changes nothing.
+  pub place-refuses : {why : Refusal} {r : Planned} → Valid plan → r ≡ refusal-of plan why → placedIn plan table ≡ refusal-of plan why
+      → (r ≡ placedIn plan table)
+      × ((table ≡ tableAfter plan table) × (Valid (r .plan) × (outcomeNumber (r .outcome) ≡ placeNumber plan table)))
+  place-refuses {why} {r} valid is-refused why-refused = (
+    is-refused ∙ sym why-refused,
+    (
+      sym (ap (λ (p : Planned). clearedWhere (p .outcome) (plan .count * plan .count) table) why-refused),
+      (
+        subst (λ (p : Planned). Valid (p .plan)) (sym is-refused) valid,
+        place-number plan table (is-refused ∙ sym why-refused),
+      ),
+    ),
+  )
+
+  -- Accepted, it hands back the placed plan and has cleared the table.
+  pub place-accepts : {after : Plan} {left : List ℕ} → Holding plan (sitesIn plan) → (plan .count ≡ 0 → ⊥)
+      → plan .count * plan .count ≤ length table → after ≡ placed (sitesIn plan)
+      → left ≡ replicate (plan .count * plan .count) 0 ++ drop (plan .count * plan .count) table
+      → (record { outcome = Done; plan = after } ≡ placedIn plan table)
+      × ((left ≡ tableAfter plan table) × (Valid after × (0 ≡ placeNumber plan table)))
+  place-accepts {after} {left} holding some room same cleared =
+      let is-done = ap {B = Planned} (λ (p : Plan). record { outcome = Done; plan = p }) same ∙ sym (placed-done some room) in (
+        is-done,
+        (
+          cleared ∙ sym (ap (λ (p : Planned). clearedWhere (p .outcome) (plan .count * plan .count) table) (placed-done some room)),
+          (
+            subst Valid (sym same) (is-placed (sitesIn plan) (holding .listed) (omega (arith, holding .count))),
+            place-number plan table is-done,
+          ),
+        ),
+      )
+
+-- The plan of some sites is placed with a table that has room.
+pub unplaced-placed : (sites : List Site) (table : List ℕ) → Listed sites → 1 ≤ length sites → length sites * length sites ≤ length table
+    → placedIn (unplaced sites) table ≡ record { outcome = Done; plan = placed sites }
+unfolding unplaced
+unplaced-placed sites table listed nonempty room =
+    placed-done (unplaced sites) table (λ none. omega arith) room
+    ∙ ap (λ (l : List Site). record { outcome = Done; plan = placed l }) (sites-unplaced sites listed)
+
+-- "Placing a placed plan gives the same answer again": the same plan.
+pub placed-again : {plan : Plan} (table : List ℕ) → Valid plan → plan .placed ≡ true → plan .count * plan .count ≤ length table
+    → placedIn plan table ≡ record { outcome = Done; plan = plan }
+unfolding unplaced placed
+placed-again table (is-unplaced sites listed) is-so room = absurd (false≢true is-so)
+placed-again table (is-placed sites listed nonempty) is-so room =
+    placed-done (placed sites) table (λ none. omega arith) room
+    ∙ ap (λ (l : List Site). record { outcome = Done; plan = placed l }) (sites-placed sites listed)
+
+-- ---- asking: tests 9, 6
+
+-- A plan that is not placed has no side to tell;
+pub side-refused : (plan : Plan) → plan .placed ≡ false → NoSide refusal.NotPlaced ≡ sideAsked plan
+side-refused plan is = sym (ap (λ (b : Bool). sideWhere b (answerFor plan .side)) is)
+
+-- one that is placed tells the side it holds.
+pub side-given : {plan : Plan} → Valid plan → plan .placed ≡ true → SideIs (plan .side) ≡ sideAsked plan
+side-given {plan} valid is =
+    ap SideIs (valid-side valid is) ∙ sym (ap (λ (b : Bool). sideWhere b (answerFor plan .side)) is)
+
+module _ (plan : Plan) (i : ℕ) where
+  -- What is answered, from the two tests.
+  corner-so : {placed outside : Bool} → plan .placed ≡ placed → leb (plan .count) i ≡ outside
+      → cornerAsked plan i ≡ cornerWhere placed outside (cornerAt (answerFor plan .corners) i)
+  corner-so is outside = ap₂ (λ (b o : Bool). cornerWhere b o (cornerAt (answerFor plan .corners) i)) is outside
+
+  -- A plan that is not placed has no corner to tell,
+  pub corner-refused : plan .placed ≡ false → NoCorner refusal.NotPlaced ≡ cornerAsked plan i
+  corner-refused is = sym (corner-so is refl)
+
+  -- and none for a number at or above the count;
+  pub corner-outside : plan .placed ≡ true → plan .count ≤ i → NoCorner refusal.NoSuchSite ≡ cornerAsked plan i
+  corner-outside is outside = sym (corner-so is (le-leb (plan .count) i outside))
+
+  -- else it tells the corner it holds.
+  pub corner-given : Valid plan → plan .placed ≡ true → i < plan .count → CornerIs (getD (plan .corners) i 0) ≡ cornerAsked plan i
+  corner-given valid is below =
+      ap CornerIs (valid-corner valid is i below) ∙ sym (corner-so is (lt-leb (plan .count) i below))

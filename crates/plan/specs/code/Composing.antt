@@ -1,0 +1,264 @@
+-- Writing a sheet line by line: what a placed plan holds at each site, and the lines of its first sites.
+-- Assumes nothing.
+use mathlib.Core.Path.{_≡_, refl, sym, ap, ap₂, _∙_}
+use mathlib.Core.Bool.{true, false≢true}
+use mathlib.Core.List.{List, [], _∷_, _++_, map, append-assoc}
+use Prim.Native.Nat.{ℕ, zero, suc, _+_, _*_, _≤_, _<_}
+use native.Mathlib.Nat.{not-suc-le-zero, le-of-suc-le-suc}
+use native.Mathlib.Numerals.{add-one}
+use native.Mathlib.Omega.{arith}
+use lib.ListN.{length, getD, take, length-append, length-map, length-take, List·getD-append}
+use lib.Seq.{take-length}
+use Rattle.placing.specs.declared.units.Place.{Place}
+use Rattle.placing.specs.declared.units.Side.{Side}
+use Rattle.placing.specs.declared.units.Side.the-variants.{Number, Free}
+use Rattle.placing.specs.rules.Units.{OnPlan, nowhere, xOf, yOf}
+use Rattle.placing.specs.rules.Corner.{Corner}
+use Rattle.placing.specs.rules.Choice.{Corners}
+use Rattle.placing.specs.rules.Answer.{Answer, answerOf, IsAnswer, is-free, is-number, answer-is}
+use Rattle.plan.specs.declared.name.Name.{Name}
+use Rattle.plan.specs.declared.plan.Plan.{Plan}
+use Rattle.plan.specs.rules.Text.{tab, lineFeed}
+use Rattle.plan.specs.rules.Number.{decimal, decimal-short, decimal-digit}
+use Rattle.plan.specs.rules.Name.{bytesOf, name-short, name-held}
+use Rattle.plan.specs.rules.Site.{Site, placeOf, placesOf, noSite, Listed, place-at}
+use Rattle.plan.specs.rules.List.{listLine}
+use Rattle.plan.specs.rules.Sheet.{sideText, siteLines, sheetWith, sheetOf, answer-corners}
+use Rattle.plan.specs.code.SheetParts.{sideLineEnded, siteLineEnded, SideSmall}
+use Rattle.plan.specs.code.Taken.{siteOf}
+use Rattle.plan.specs.rules.Plan.{nameRecord, placed, unplaced, sitesIn, sites-placed, Valid, is-placed, is-unplaced}
+use Rattle.plan.specs.code.Put.{Put}
+use Rattle.plan.specs.code.PutLaws.{put-none, put-then, put-same, put-length}
+
+-- ---- the lengths of the parts of a line
+
+-- A side is at most five bytes.
+pub side-text-short : (side : Side) → SideSmall side → length (sideText side) ≤ 5
+side-text-short (Number h) small = decimal-short (h .0) (omega arith)
+side-text-short Free small = omega arith
+
+-- A name is no longer than its record says.
+pub name-text-short : (name : Name) → name .len ≤ 8 → length (bytesOf name) ≤ 8
+name-text-short name short = rw length-take (omega arith)
+
+-- A corner is one byte.
+pub corner-text-short : (corner : ℕ) → Corner corner → length (decimal corner) ≤ 1
+corner-text-short corner is = rw (decimal-digit corner (omega arith)) (omega arith)
+
+-- So the first line is at most 11 bytes,
+pub side-line-short : (side : Side) → SideSmall side → length (sideLineEnded side) ≤ 11
+side-line-short side small = let short = side-text-short side small in simp length-append (omega arith)
+
+-- and the line of a site at most 23.
+site-line-short : (name : Name) (place : Place) (corner : ℕ) → name .len ≤ 8 → OnPlan place → Corner corner
+    → length (siteLineEnded (siteOf name place) corner) ≤ 23
+unfolding listLine
+site-line-short name place corner short on is =
+    let name-short = name-text-short name short in
+    let x-short = decimal-short (xOf place) (omega arith) in
+    let y-short = decimal-short (yOf place) (omega arith) in
+    let corner-short = corner-text-short corner is in
+    simp length-append (omega arith)
+
+-- ---- the lines of a sheet
+
+-- The lines of one site more.
+site-lines-more : (sites : List Site) (corners : List ℕ) (i : ℕ) → i < length sites → i < length corners
+    → siteLines (take (suc i) sites) corners ≡ siteLines (take i sites) corners ++ siteLineEnded (getD sites i noSite) (getD corners i 0)
+unfolding siteLines
+site-lines-more [] corners i in-sites in-corners = absurd (not-suc-le-zero in-sites)
+site-lines-more (site ∷ sites) [] i in-sites in-corners = absurd (not-suc-le-zero in-corners)
+site-lines-more (site ∷ sites) (corner ∷ corners) zero in-sites in-corners = refl
+site-lines-more (site ∷ sites) (corner ∷ corners) (suc i) in-sites in-corners =
+    rw (site-lines-more sites corners i (le-of-suc-le-suc in-sites) (le-of-suc-le-suc in-corners), siteLines)
+    (sym (append-assoc (listLine site ++ (tab ∷ decimal corner)) (lineFeed ∷ siteLines (take i sites) corners)
+    (siteLineEnded (getD sites i noSite) (getD corners i 0))))
+
+-- Corners past the last site do not matter.
+lines-past : (sites : List Site) (corners more : List ℕ) → length sites ≤ length corners
+    → siteLines sites (corners ++ more) ≡ siteLines sites corners
+unfolding siteLines
+lines-past [] corners more enough = refl
+lines-past (site ∷ sites) [] more enough = absurd (not-suc-le-zero enough)
+lines-past (site ∷ sites) (corner ∷ corners) more enough =
+    rw (lines-past sites corners more (le-of-suc-le-suc enough), siteLines)
+
+-- A sheet is its first line and then the others.
+sheet-of-lines : (sites : List Site) (answer : Answer)
+    → sideLineEnded (answer .side) ++ siteLines sites (answer .corners) ≡ sheetWith sites answer
+unfolding sheetWith
+sheet-of-lines sites answer = simp append-assoc
+
+-- The line of a site, part by part.
+pub line-parts : (site : Site) (corner : ℕ)
+    → site .name ++ (tab ∷ (decimal (xOf (site .place)) ++ (tab ∷ (decimal (yOf (site .place)) ++ (tab ∷ (decimal corner ++ (lineFeed ∷ [])))))))
+    ≡ siteLineEnded site corner
+unfolding listLine
+line-parts site corner = simp append-assoc
+
+-- ---- a placed plan, site by site
+
+-- The name that stands past the last of an array: nothing depends on it.
+abbrev pub pastNames : Name
+pastNames = record { bytes = []; len = 0 }
+
+-- The lines of the first i sites of a plan.
+pub linesTo : Plan → ℕ → List ℕ
+linesTo plan i = siteLines (take i (sitesIn plan)) (plan .corners)
+
+-- The site that a plan's arrays hold at a number.
+abbrev pub siteHeld : Plan → ℕ → Site
+siteHeld plan i = siteOf (getD (plan .names) i pastNames) (getD (plan .places) i nowhere)
+
+-- What a sheet is written from: each site and corner fits its line, each line adds to those before it, and all are the sheet.
+pub record Printable (plan : Plan) : Type 0 where
+  pub few : plan .count ≤ 240
+  pub side-small : SideSmall (plan .side)
+  pub name-fits : (i : ℕ) → i < plan .count → getD (plan .names) i pastNames .len ≤ 8
+  pub on-plan : (i : ℕ) → i < plan .count → OnPlan (getD (plan .places) i nowhere)
+  pub corner : (i : ℕ) → i < plan .count → Corner (getD (plan .corners) i 0)
+  pub no-line : linesTo plan 0 ≡ []
+  pub one-line : (i : ℕ) → i < plan .count → linesTo plan (suc i) ≡ linesTo plan i ++ siteLineEnded (siteHeld plan i) (getD (plan .corners) i 0)
+  pub whole : sideLineEnded (plan .side) ++ linesTo plan (plan .count) ≡ sheetOf (sitesIn plan)
+
+-- What a list's elements were made to, with more behind it, at the number of an element.
+held-at : {A B : Type 0} (f : A → B) (l : List A) (more : List B) (i : ℕ) (d : B) (e : A) → i < length l
+    → getD (map f l ++ more) i d ≡ f (getD l i e)
+held-at f [] more i d e listed = absurd (not-suc-le-zero listed)
+held-at f (a ∷ l) more zero d e listed = refl
+held-at f (a ∷ l) more (suc i) d e listed = held-at f l more i d e (le-of-suc-le-suc listed)
+
+-- A side of an answer is one that a sheet can print.
+answer-side : {ps : List Place} {a : Answer} → IsAnswer ps a → SideSmall (a .side)
+answer-side (is-free first) = tt
+answer-side (is-number none-free least most first above) = most
+
+module _ (sites : List Site) (listed : Listed sites) where
+  -- The name's record that is held at a number,
+  name-at : (i : ℕ) → i < length sites → getD (placed sites .names) i pastNames ≡ nameRecord (getD sites i noSite)
+  unfolding placed
+  name-at i below = held-at nameRecord sites _ i pastNames noSite below
+
+  -- the place,
+  place-held : (i : ℕ) → i < length sites → getD (placed sites .places) i nowhere ≡ getD sites i noSite .place
+  unfolding placed
+  place-held i below = held-at placeOf sites _ i nowhere noSite below
+
+  -- and so the site.
+  site-held : (i : ℕ) → i < length sites → siteHeld (placed sites) i ≡ getD sites i noSite
+  site-held i below =
+      ap₂ siteOf (name-at i below) (place-held i below)
+      ∙ ap (λ (name : List ℕ). record { name = name; place = getD sites i noSite .place })
+      (name-held (getD sites i noSite .name) (name-short (getD sites i noSite .name) (listed .named i below)))
+
+  -- The corners of the answer, one for each site.
+  held-corners : Corners (length (placesOf sites)) (answerOf (placesOf sites) .corners)
+  held-corners = answer-corners (answer-is (placesOf sites) (listed .places-distinct))
+
+  -- So there are as many as sites,
+  corners-enough : length (answerOf (placesOf sites) .corners) ≡ length sites
+  corners-enough = held-corners .one-each ∙ length-map sites placeOf
+
+  -- and the one that is held at a number is a corner.
+  corner-held : (i : ℕ) → i < length sites → Corner (getD (placed sites .corners) i 0)
+  unfolding placed
+  corner-held i below =
+      rw (List·getD-append (answerOf (placesOf sites) .corners) _ 0 i (omega (arith, corners-enough)))
+      (held-corners .corner i (omega (arith, length-map sites placeOf)))
+
+  -- The place at a number is in range.
+  on-plan-held : (i : ℕ) → i < length sites → OnPlan (getD (placed sites .places) i nowhere)
+  on-plan-held i below =
+      let within : i < length (placesOf sites) = rw length-map below in
+      rw (place-held i below, ← place-at sites i)
+      (record { on-x = record { range = listed .in-range .x-range i within }; on-y = record { range = listed .in-range .y-range i within } })
+
+  -- The lines of the first sites are those of the list.
+  lines-held : (i : ℕ) → linesTo (placed sites) i ≡ siteLines (take i sites) (placed sites .corners)
+  unfolding linesTo
+  lines-held i = ap (λ (l : List Site). siteLines (take i l) (placed sites .corners)) (sites-placed sites listed)
+
+  -- One site more is one line more,
+  one-line-held : (i : ℕ) → i < length sites
+      → linesTo (placed sites) (suc i) ≡ linesTo (placed sites) i ++ siteLineEnded (siteHeld (placed sites) i) (getD (placed sites .corners) i 0)
+  unfolding placed
+  one-line-held i below =
+      lines-held (suc i)
+      ∙ site-lines-more sites (placed sites .corners) i below
+      (simp length-append (omega (arith, corners-enough)))
+      ∙ ap₂ (λ (lines : List ℕ) (site : Site). lines ++ siteLineEnded site (getD (placed sites .corners) i 0)) (sym (lines-held i))
+      (sym (site-held i below))
+
+  -- and all lines, with the first, are the sheet.
+  whole-held : sideLineEnded (placed sites .side) ++ linesTo (placed sites) (length sites) ≡ sheetOf (sitesIn (placed sites))
+  unfolding placed sheetOf
+  whole-held =
+      ap (λ (lines : List ℕ). sideLineEnded (placed sites .side) ++ lines)
+      (lines-held (length sites)
+      ∙ ap (λ (l : List Site). siteLines l (placed sites .corners)) (take-length sites)
+      ∙ lines-past sites (answerOf (placesOf sites) .corners) _ (omega (arith, corners-enough)))
+      ∙ sheet-of-lines sites (answerOf (placesOf sites))
+      ∙ ap sheetOf (sym (sites-placed sites listed))
+
+  -- So the plan of some sites can be printed.
+  placed-printable : Printable (placed sites)
+  unfolding placed linesTo siteLines
+  placed-printable =
+      record {
+        few = listed .few;
+        side-small = answer-side (answer-is (placesOf sites) (listed .places-distinct));
+        name-fits = λ i below. rw (name-at i below) (name-short (getD sites i noSite .name) (listed .named i below));
+        on-plan = on-plan-held;
+        corner = corner-held;
+        no-line = refl;
+        one-line = one-line-held;
+        whole = whole-held;
+      }
+
+-- A valid plan that is placed can be printed.
+pub printable : {plan : Plan} → Valid plan → plan .placed ≡ true → Printable plan
+unfolding unplaced
+printable (is-unplaced sites listed) placed = absurd (false≢true placed)
+printable (is-placed sites listed nonempty) placed = placed-printable sites listed
+
+-- ---- the lines written so far
+
+-- After the lines of the first i sites: no more than 23 bytes for each.
+pub record Composed (plan : Plan) (out₀ : List ℕ) (at₀ : ℕ) (out : List ℕ) (at i : ℕ) : Type 0 where
+  pub counted : i ≤ plan .count
+  pub near : at ≤ at₀ + 23 * i
+  pub lines : Put out₀ at₀ (linesTo plan i) at out
+
+-- Before the first line.
+pub composed-start : {plan : Plan} (out : List ℕ) (at : ℕ) → Printable plan → Composed plan out at out at 0
+composed-start out at print =
+    record { counted = omega arith; near = omega arith; lines = put-same (put-none out at) (sym (print .no-line)) }
+
+module _ {plan : Plan} {out₀ out : List ℕ} {at₀ at i : ℕ} (print : Printable plan) (so-far : Composed plan out₀ at₀ out at i) where
+  -- There is room for the next line,
+  pub composed-room : at₀ ≤ 11 → 5531 ≤ length out₀ → i < plan .count → at + 23 ≤ length out
+  composed-room after-side room more = omega (arith, so-far .near, print .few, put-length (so-far .lines))
+
+  -- with it there is one line more,
+  pub composed-more : {later : List ℕ} {next : ℕ} → i < plan .count
+      → Put out at (siteLineEnded (siteHeld plan i) (getD (plan .corners) i 0)) next later → Composed plan out₀ at₀ later next (i + 1)
+  composed-more more put =
+      record {
+        counted = omega arith;
+        near =
+            omega (
+              arith,
+              so-far .near,
+              put .next-is,
+              site-line-short (getD (plan .names) i pastNames) (getD (plan .places) i nowhere) (getD (plan .corners) i 0) (print .name-fits i more)
+                  (print .on-plan i more) (print .corner i more),
+            );
+        lines = rw (add-one i, print .one-line i more) (put-then (so-far .lines) put);
+      }
+
+  -- and after the last line the sheet is written.
+  pub composed-end : {first : List ℕ} → Put first 0 (sideLineEnded (plan .side)) at₀ out₀ → plan .count ≤ i
+      → Put first 0 (sheetOf (sitesIn plan)) at out
+  composed-end side-put done =
+      let last : i ≡ plan .count = omega (arith, so-far .counted) in
+      put-same (put-then side-put (so-far .lines)) (ap (λ (k : ℕ). sideLineEnded (plan .side) ++ linesTo plan k) last ∙ print .whole)

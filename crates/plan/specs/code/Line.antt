@@ -1,0 +1,23 @@
+-- Where a line and its fields end, as places in a text.
+-- Assumes nothing.
+use mathlib.Core.Path.{_≡_}
+use mathlib.Core.List.{List}
+use mathlib.Core.Logic.{_≢_}
+use mathlib.Core.Option.{Option, some, none}
+use Prim.Native.Nat.{ℕ, _+_, _≤_, _<_}
+use lib.ListN.{length, getD}
+use Rattle.plan.specs.declared.list.LineEnd.{LineEnd}
+use Rattle.plan.specs.declared.list.LineEnd.the-variants.{At, Missing}
+use Rattle.plan.specs.rules.Text.{tab, Cut}
+
+-- The end of a line that starts at a place.
+abbrev pub lineEnd : ℕ → Option Cut → LineEnd
+lineEnd at none = Missing
+lineEnd at (some cut) = At (at + length (cut .line))
+
+-- The first tab of a line from a place on, or the line's length.
+pub record FieldEnd (line : List ℕ) (at end : ℕ) : Type 0 where
+  pub after : at ≤ end
+  pub within : end ≤ length line
+  pub no-tab : (i : ℕ) → at ≤ i → i < end → getD line i 0 ≢ tab
+  pub at-tab : end < length line → getD line end 0 ≡ tab

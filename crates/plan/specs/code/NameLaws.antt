@@ -1,0 +1,113 @@
+-- Reading a name byte by byte, and comparing two names byte by byte.
+-- Assumes nothing.
+use mathlib.Core.Bool.{Bool, true, false, _&&_, and-false, or-false}
+use mathlib.Core.List.{List, [], _∷_, _++_}
+use mathlib.Core.Logic.{_≢_}
+use mathlib.Core.Path.{_≡_, refl, sym, ap, ap₂, _∙_}
+use Prim.Native.Nat.{ℕ, zero, suc, _+_, _-_, _≤_, _<_}
+use native.Mathlib.Nat.{zero-sub, suc-sub-suc, sub-zero}
+use native.Mathlib.Numerals.{add-one}
+use native.Mathlib.Omega.{arith}
+use lib.Dec.{eqb, leb}
+use lib.ListN.{length, getD, take, drop, replicate, drop-of-length-le}
+use lib.Seq.{drop-cons, take-length, slice-cons, slice-empty}
+use borrow.Author.Tests.{le-leb, lt-leb, eq-eqb, ne-eqb}
+use Rattle.plan.specs.declared.name.Name.{Name}
+use Rattle.plan.specs.rules.Name.{nameByte, nameBytes, isName, sameBytes, nameOf}
+use Rattle.plan.specs.code.NameRead.{noName, nameWhere, nameRead}
+
+-- A byte is of a name by where it stands: hyphen, below the digits, a digit, between digits and letters, from A on.
+pub hyphen-name-byte : (b : ℕ) → b ≡ 45 → nameByte b ≡ true
+hyphen-name-byte b e = rw e
+
+pub low-no-name-byte : (b : ℕ) → b ≢ 45 → b < 48 → nameByte b ≡ false
+low-no-name-byte b e h = rw (lt-leb 65 b (omega arith), lt-leb 48 b h, ne-eqb b 45 e)
+
+pub digit-name-byte : (b : ℕ) → 48 ≤ b → b ≤ 57 → nameByte b ≡ true
+digit-name-byte b h l = rw (lt-leb 65 b (omega arith), le-leb 48 b h, le-leb b 57 l)
+
+pub middle-no-name-byte : (b : ℕ) → 57 < b → b < 65 → nameByte b ≡ false
+middle-no-name-byte b h l = rw (lt-leb 65 b l, le-leb 48 b (omega arith), lt-leb b 57 h, ne-eqb b 45 (omega arith))
+
+pub letter-name-byte : (b : ℕ) → 65 ≤ b → nameByte b ≡ leb b 90
+letter-name-byte b h =
+    rw (le-leb 65 b h, le-leb 48 b (omega arith), lt-leb b 57 (omega arith), ne-eqb b 45 (omega arith)) (or-false (leb b 90))
+
+-- The bytes from i on are of a name if byte i is and those after it are.
+module _ (text : List ℕ) (i : ℕ) (within : i < length text) where
+  name-bytes-from : nameBytes (drop i text) ≡ (nameByte (getD text i 0) && nameBytes (drop (i + 1) text))
+  unfolding nameBytes
+  name-bytes-from = rw (add-one, drop-cons text i 0)
+
+  pub byte-passed : nameByte (getD text i 0) ≡ true → nameBytes (drop i text) ≡ nameBytes (drop (i + 1) text)
+  byte-passed e = name-bytes-from ∙ ap (λ (t : Bool). t && nameBytes (drop (i + 1) text)) e
+
+  pub byte-failed : nameByte (getD text i 0) ≡ false → nameBytes (drop i text) ≡ false
+  byte-failed e = name-bytes-from ∙ ap (λ (t : Bool). t && nameBytes (drop (i + 1) text)) e
+
+-- Past the last byte no byte can fail.
+pub bytes-passed : (text : List ℕ) (i : ℕ) → length text ≤ i → nameBytes (drop i text) ≡ true
+unfolding nameBytes
+bytes-passed text i h = rw (drop-of-length-le text h)
+
+-- The rule for a name, at a text of no byte, at one that is too long, and at others.
+pub empty-no-name : (text : List ℕ) → length text ≡ 0 → isName text ≡ false
+unfolding isName
+empty-no-name text e = rw e
+
+pub long-no-name : (text : List ℕ) → 8 < length text → isName text ≡ false
+unfolding isName
+long-no-name text h = rw (le-leb 1 (length text) (omega arith), lt-leb (length text) 8 h)
+
+pub short-name : (text : List ℕ) → 1 ≤ length text → length text ≤ 8 → isName text ≡ nameBytes text
+unfolding isName
+short-name text h l = rw (le-leb 1 (length text) h, le-leb (length text) 8 l)
+
+-- k zeros without the first n of them.
+drop-zeros : (n k : ℕ) → drop {A = ℕ} n (replicate k 0) ≡ replicate (k - n) 0
+drop-zeros zero k = rw sub-zero
+drop-zeros (suc n) zero = rw zero-sub
+drop-zeros (suc n) (suc k) = rw suc-sub-suc (drop-zeros n k)
+
+-- A text written over eight zeros is what its record holds.
+over-zeros : (text : List ℕ) → take (length text) text ++ drop (length text) (replicate 8 0) ≡ nameOf text .bytes
+over-zeros text = ap₂ (λ (xs ys : List ℕ). xs ++ ys) (take-length text) (drop-zeros (length text) 8)
+
+-- What is handed back where the text is no name.
+pub no-name-read : (text : List ℕ) {name : Name} → name ≡ noName → isName text ≡ false → record { ok = false; name = name } ≡ nameRead text
+no-name-read text e refused =
+    ap (λ (n : Name). record { ok = false; name = n }) e ∙ sym (ap (λ (ok : Bool). record { ok = ok; name = nameWhere ok text }) refused)
+
+-- What is handed back where it is one, written over zeros.
+pub name-read : (text bytes : List ℕ) → bytes ≡ take (length text) text ++ drop (length text) (replicate 8 0) → isName text ≡ true
+    → record { ok = true; name = record { bytes = bytes; len = length text } } ≡ nameRead text
+name-read text bytes e is =
+    ap (λ (b : List ℕ). record { ok = true; name = record { bytes = b; len = length text } }) (e ∙ over-zeros text)
+    ∙ sym (ap (λ (ok : Bool). record { ok = ok; name = nameWhere ok text }) is)
+
+-- The names are of different lengths.
+pub lengths-differ : (a b : List ℕ) → length a ≢ length b → sameBytes a b ≡ false
+unfolding sameBytes
+lengths-differ [] [] h = absurd (h refl)
+lengths-differ [] (c ∷ other) h = refl
+lengths-differ (b ∷ bytes) [] h = refl
+lengths-differ (b ∷ bytes) (c ∷ other) h = rw (lengths-differ bytes other (λ e. h (ap suc e))) (and-false (eqb b c))
+
+-- Two names of n bytes are the same from i on if bytes i are and those after them are.
+module _ (n : ℕ) (a b : List ℕ) (i : ℕ) (within : i < n) (long-a : n ≤ length a) (long-b : n ≤ length b) where
+  same-from : sameBytes (drop i (take n a)) (drop i (take n b))
+      ≡ (eqb (getD a i 0) (getD b i 0) && sameBytes (drop (i + 1) (take n a)) (drop (i + 1) (take n b)))
+  unfolding sameBytes
+  same-from = rw (add-one, slice-cons i n a 0, slice-cons i n b 0)
+
+  pub same-passed : getD a i 0 ≡ getD b i 0
+      → sameBytes (drop i (take n a)) (drop i (take n b)) ≡ sameBytes (drop (i + 1) (take n a)) (drop (i + 1) (take n b))
+  same-passed e = same-from ∙ rw (eq-eqb (getD a i 0) (getD b i 0) e)
+
+  pub same-failed : getD a i 0 ≢ getD b i 0 → sameBytes (drop i (take n a)) (drop i (take n b)) ≡ false
+  same-failed e = same-from ∙ rw (ne-eqb (getD a i 0) (getD b i 0) e)
+
+-- No byte of the two is left.
+pub same-end : (n : ℕ) (a b : List ℕ) → sameBytes (drop n (take n a)) (drop n (take n b)) ≡ true
+unfolding sameBytes
+same-end n a b = rw (slice-empty n a, slice-empty n b)

@@ -1,0 +1,20 @@
+-- What reading a name hands back.
+-- Assumes nothing.
+use mathlib.Core.Bool.{Bool, true, false}
+use mathlib.Core.List.{List, []}
+use Prim.Native.Nat.{ℕ}
+use Rattle.plan.specs.declared.name.Name.{Name}
+use Rattle.plan.specs.declared.name.NameRead.{NameRead}
+use Rattle.plan.specs.rules.Name.{isName, nameOf}
+
+-- The name of an empty slot.
+abbrev pub noName : Name
+noName = nameOf []
+
+-- The name, where the bytes are one.
+abbrev pub nameWhere : Bool → List ℕ → Name
+nameWhere true bytes = nameOf bytes
+nameWhere false bytes = noName
+
+abbrev pub nameRead : List ℕ → NameRead
+nameRead bytes = record { ok = isName bytes; name = nameWhere (isName bytes) bytes }

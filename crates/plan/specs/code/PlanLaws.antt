@@ -1,0 +1,169 @@
+-- What a plan that the calls hand back holds, and the plan with one site more.
+-- Assumes nothing.
+use mathlib.Core.Path.{_≡_, refl, sym, ap, ap₂, _∙_, subst}
+use mathlib.Core.Bool.{true, false, false≢true}
+use mathlib.Core.List.{List, [], _∷_, _++_, map, map-append, append-assoc}
+use Prim.Native.Nat.{ℕ, suc, _+_, _-_, _*_, _≤_, _<_}
+use native.Mathlib.Omega.{arith}
+use lib.ListN.{length, getD, take, set, replicate, length-map, length-append, List·getD-append, List·getD-map}
+use lib.Seq.{take-at, set-at, getD-take}
+use Rattle.placing.specs.declared.side.Placed.{Placed}
+use Rattle.placing.specs.declared.units.Place.{Place}
+use Rattle.placing.specs.declared.units.Side.the-variants.{Free}
+use Rattle.placing.specs.rules.Units.{nowhere}
+use Rattle.placing.specs.rules.Choice.{cornerAt}
+use Rattle.placing.specs.rules.Answer.{Answer, answerOf}
+use Rattle.placing.specs.code.Placed.{placedAs, MayPlace}
+use Rattle.plan.specs.declared.name.Name.{Name}
+use Rattle.plan.specs.declared.plan.Plan.{Plan}
+use Rattle.plan.specs.rules.Name.{bytesOf, nameOf, name-short}
+use Rattle.plan.specs.rules.Site.{Site, noSite, placeOf, placesOf, nameTaken, placeTaken, Listed}
+use Rattle.plan.specs.rules.Enter.{listed-none}
+use Rattle.plan.specs.code.Taken.{siteOf, ShortNames, namesTaken, placesTaken}
+use Rattle.plan.specs.code.TakenLaws.{names-of-sites, places-of-sites}
+use Rattle.plan.specs.rules.Plan.{nameRecord, namesHeld, placesHeld, unplaced, placed, sitesIn, Valid, is-unplaced, is-placed, answerIn}
+use Rattle.plan.specs.rules.Plan.{sites-unplaced, sites-placed, placed-answer}
+
+-- A plan's count, names and places are those of these sites, which are by the rules.
+pub record Holding (plan : Plan) (sites : List Site) : Type 0 where
+  pub listed : Listed sites
+  pub count : plan .count ≡ length sites
+  pub names : plan .names ≡ namesHeld sites
+  pub places : plan .places ≡ placesHeld sites
+
+-- A plan that the calls hand back holds its sites.
+pub valid-holding : {plan : Plan} → Valid plan → Holding plan (sitesIn plan)
+unfolding unplaced placed
+valid-holding (is-unplaced sites listed) =
+    rw (sites-unplaced sites listed) (record { listed = listed; count = refl; names = refl; places = refl })
+valid-holding (is-placed sites listed some-sites) =
+    rw (sites-placed sites listed) (record { listed = listed; count = refl; names = refl; places = refl })
+
+-- A plan that is not placed, from its count, names and places.
+abbrev pub unplacedOf : ℕ → List Name → List Place → Plan
+unplacedOf count names places =
+    record { count = count; names = names; places = places; placed = false; side = Free; corners = replicate 240 0 }
+
+-- With every slot empty it is the plan of no sites.
+pub empty-started : {none : Name} → none ≡ nameOf [] → unplacedOf 0 (replicate 240 none) (replicate 240 nowhere) ≡ unplaced []
+unfolding unplaced
+empty-started e = ap (λ (name : Name). unplacedOf 0 (replicate 240 name) (replicate 240 nowhere)) e
+
+-- and so one that the calls hand back.
+pub empty-valid : {none : Name} → none ≡ nameOf [] → Valid (unplacedOf 0 (replicate 240 none) (replicate 240 nowhere))
+empty-valid e = subst Valid (sym (empty-started e)) (is-unplaced [] listed-none)
+
+-- ---- reading what a plan holds
+
+-- The names that it holds are short.
+pub holding-short : {plan : Plan} {sites : List Site} → Holding plan sites → ShortNames (plan .count) (plan .names)
+holding-short {plan} {sites} holding = rw (holding .count, holding .names) (record { short = held })
+  where
+    held : (i : ℕ) → i < length sites → getD (namesHeld sites) i (nameOf []) .len ≤ 8
+    held i below =
+        rw (
+          List·getD-append (map nameRecord sites) (replicate (240 - length sites) (nameOf [])) (nameOf []) i
+              (omega (arith, length-map sites nameRecord)),
+          List·getD-map nameRecord sites i noSite,
+        )
+        (name-short (getD sites i noSite .name) (holding .listed .named i below))
+
+-- Its places, the empty slots left out.
+pub holding-places : {plan : Plan} {sites : List Site} → Holding plan sites → take (plan .count) (plan .places) ≡ placesOf sites
+holding-places {plan} {sites} holding =
+    ap₂ (λ (n : ℕ) (places : List Place). take n places) (holding .count) (holding .places)
+    ∙ take-at (placesOf sites) _ (length sites) (length-map sites placeOf)
+
+-- Whether a name is already in it,
+pub holding-name : {plan : Plan} {sites : List Site} → Holding plan sites → (bytes : List ℕ)
+    → namesTaken (plan .count) (plan .names) bytes ≡ nameTaken sites bytes
+holding-name {plan} {sites} holding bytes =
+    ap₂ (λ (n : ℕ) (names : List Name). namesTaken n names bytes) (holding .count) (holding .names) ∙ names-of-sites sites bytes
+
+-- or a place.
+pub holding-place : {plan : Plan} {sites : List Site} → Holding plan sites → (place : Place)
+    → placesTaken (plan .count) (plan .places) place ≡ placeTaken sites place
+holding-place {plan} {sites} holding place =
+    ap₂ (λ (n : ℕ) (places : List Place). placesTaken n places place) (holding .count) (holding .places) ∙ places-of-sites sites place
+
+-- ---- one site more
+
+-- The first empty slot takes what is to be held of the new site.
+held-more : {A : Type 0} (f : Site → A) (d : A) (sites : List Site) (site : Site) → length sites < 240
+    → set (map f sites ++ replicate (240 - length sites) d) (length sites) (f site)
+    ≡ map f (sites ++ (site ∷ [])) ++ replicate (240 - length (sites ++ (site ∷ []))) d
+held-more {A} f d sites site room =
+    let slot : 240 - length sites ≡ suc (240 - suc (length sites)) = omega arith in
+    let left : 240 - suc (length sites) ≡ 240 - length (sites ++ (site ∷ [])) = omega (arith, length-append sites (site ∷ [])) in
+    ap (λ (n : ℕ). set (map f sites ++ replicate n d) (length sites) (f site)) slot
+    ∙ set-at (map f sites) d (replicate (240 - suc (length sites)) d) (f site) (length sites) (length-map sites f)
+    ∙ sym (append-assoc (map f sites) (f site ∷ []) (replicate (240 - suc (length sites)) d))
+    ∙ ap₂ (λ (l : List A) (n : ℕ). l ++ replicate n d) (sym (map-append f sites (site ∷ []))) left
+
+-- The plan with a name and a place more is that of the sites with one more.
+pub holding-more : {plan : Plan} {sites : List Site} → Holding plan sites → (name : Name) (place : Place) → name ≡ nameOf (bytesOf name)
+    → plan .count < 240
+    → unplacedOf (plan .count + 1) (set (plan .names) (plan .count) name) (set (plan .places) (plan .count) place)
+    ≡ unplaced (sites ++ (siteOf name place ∷ []))
+unfolding unplaced
+holding-more {plan} {sites} holding name place named room = λ k. unplacedOf (counts k) (names k) (places k)
+  where
+    fits : length sites < 240
+    fits = omega (arith, holding .count)
+
+    counts : plan .count + 1 ≡ length (sites ++ (siteOf name place ∷ []))
+    counts = omega (arith, holding .count, length-append sites (siteOf name place ∷ []))
+
+    names : set (plan .names) (plan .count) name ≡ namesHeld (sites ++ (siteOf name place ∷ []))
+    names =
+        (λ k. set (holding .names k) (holding .count k) (named k)) ∙ held-more nameRecord (nameOf []) sites (siteOf name place) fits
+
+    places : set (plan .places) (plan .count) place ≡ placesHeld (sites ++ (siteOf name place ∷ []))
+    places = (λ k. set (holding .places k) (holding .count k) place) ∙ held-more placeOf nowhere sites (siteOf name place) fits
+
+-- ---- placing
+
+-- A plan with its answer.
+abbrev pub placedOf : ℕ → List Name → List Place → Placed → Plan
+placedOf count names places answer =
+    record { count = count; names = names; places = places; placed = true; side = answer .side; corners = answer .corners }
+
+-- The plan with the answer for its places is that of its sites, placed.
+pub holding-placed : {plan : Plan} {sites : List Site} → Holding plan sites → (answer : Placed)
+    → answer ≡ placedAs (answerOf (take (plan .count) (plan .places))) → placedOf (plan .count) (plan .names) (plan .places) answer ≡ placed sites
+unfolding placed
+holding-placed {plan} {sites} holding answer e = λ k. placedOf (holding .count k) (holding .names k) (holding .places k) (same k)
+  where
+    same : answer ≡ placedAs (answerOf (placesOf sites))
+    same = e ∙ ap (λ (places : List Place). placedAs (answerOf places)) (holding-places holding)
+
+-- Its places may be placed, where there are some and the table has room.
+pub holding-may : {plan : Plan} {sites : List Site} → Holding plan sites → (table : List ℕ) → (plan .count ≡ 0 → ⊥)
+    → plan .count * plan .count ≤ length table → MayPlace (plan .count) (plan .places) table
+holding-may {plan} {sites} holding table some-sites room =
+    record {
+      some-sites = omega arith;
+      few = omega (arith, holding .count, holding .listed .few);
+      distinct = rw (holding-places holding) (holding .listed .places-distinct);
+      in-range = rw (holding-places holding) (holding .listed .in-range);
+      room = room;
+    }
+
+-- ---- the answer of a placed plan
+
+-- It holds the answer for the places of its sites,
+pub valid-answer : {plan : Plan} → Valid plan → plan .placed ≡ true → answerIn plan ≡ answerOf (placesOf (sitesIn plan))
+unfolding unplaced
+valid-answer (is-unplaced sites listed) is-so = absurd (false≢true is-so)
+valid-answer (is-placed sites listed some-sites) is-so =
+    placed-answer sites (listed .places-distinct) ∙ ap (λ (l : List Site). answerOf (placesOf l)) (sym (sites-placed sites listed))
+
+-- so its side
+pub valid-side : {plan : Plan} → Valid plan → plan .placed ≡ true → plan .side ≡ answerOf (placesOf (sitesIn plan)) .side
+valid-side valid is-so = ap (λ (a : Answer). a .side) (valid-answer valid is-so)
+
+-- and the corner of each site.
+pub valid-corner : {plan : Plan} → Valid plan → plan .placed ≡ true → (i : ℕ) → i < plan .count
+    → getD (plan .corners) i 0 ≡ cornerAt (answerOf (placesOf (sitesIn plan)) .corners) i
+valid-corner {plan} valid is-so i below =
+    sym (getD-take (plan .count) (plan .corners) i 0 below) ∙ ap (λ (a : Answer). cornerAt (a .corners) i) (valid-answer valid is-so)

@@ -1,0 +1,53 @@
+-- The line of a refusal, part by part.
+-- Assumes nothing.
+use mathlib.Core.Path.{_≡_}
+use mathlib.Core.List.{[], _∷_, _++_, append-assoc}
+use Prim.Native.Nat.{ℕ, _≤_}
+use native.Mathlib.Omega.{arith}
+use lib.ListN.{length, length-append}
+use Rattle.plan.specs.declared.refusal.Refusal.{Refusal}
+use Rattle.plan.specs.declared.refusal.Refusal.the-variants.{
+  Line,
+  Name,
+  Coordinate,
+  NameTaken,
+  PlaceTaken,
+  NoSuchSite,
+  Full,
+  NoSites,
+  NotPlaced,
+  ShortBuffer,
+  ShortTable,
+}
+use Rattle.plan.specs.rules.Refusal.{numberOf}
+use Rattle.plan.specs.rules.Text.{tab, lineFeed}
+use Rattle.plan.specs.rules.Number.{decimal, decimal-short}
+use Rattle.plan.specs.rules.Output.{refusedWord, refusalLine}
+
+-- Numbers of refusals end with 11.
+pub number-small : (why : Refusal) → numberOf why ≤ 11
+number-small Line = omega arith
+number-small Name = omega arith
+number-small Coordinate = omega arith
+number-small NameTaken = omega arith
+number-small PlaceTaken = omega arith
+number-small NoSuchSite = omega arith
+number-small Full = omega arith
+number-small NoSites = omega arith
+number-small NotPlaced = omega arith
+number-small ShortBuffer = omega arith
+number-small ShortTable = omega arith
+
+-- So they are written in at most five digits,
+pub number-short : (why : Refusal) → length (decimal (numberOf why)) ≤ 5
+number-short why = decimal-short (numberOf why) (omega (arith, number-small why))
+
+-- and the line has at most 14 bytes.
+pub refusal-short : (why : Refusal) → length (refusalLine why) ≤ 14
+unfolding refusalLine
+refusal-short why = simp length-append (omega (arith, number-short why))
+
+-- The word with its tab, the number, the line feed.
+pub refusal-parts : {n : ℕ} (why : Refusal) → n ≡ numberOf why → refusedWord ++ (tab ∷ (decimal n ++ (lineFeed ∷ []))) ≡ refusalLine why
+unfolding refusalLine
+refusal-parts why is = rw is (simp append-assoc)

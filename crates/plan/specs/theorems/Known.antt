@@ -1,0 +1,208 @@
+-- Document 01, "Known answers": the cases marked P, as rows of one table with a theorem over the rows: what the calls of starting,
+-- entering and placing lead to. Each row is tested by entering its sites and by the pruned search, which the checker computes, so
+-- that a row more needs no proof.
+-- Assumes nothing.
+use mathlib.Core.Path.{_≡_, refl, sym, ap, _∙_, subst}
+use mathlib.Core.Bool.{Bool, true, false, _&&_}
+use mathlib.Core.List.{List, [], _∷_, map, List·Memᴰ, List·Memᴰ·cases-cons, List·Memᴰ·not-nil}
+use mathlib.Core.Logic.{⊎-elim}
+use Prim.Native.Nat.{ℕ, suc, _*_, _≤_}
+use native.Mathlib.Nat.{le-trans, mul-le-mul}
+use native.Mathlib.Omega.{arith}
+use borrow.Author.Tests.{le-ltb, ne-eqb}
+use lib.Dec.{T, eqb, lit≤}
+use lib.ListN.{length}
+use Rattle.placing.specs.declared.units.Place.{Place}
+use Rattle.placing.specs.rules.Units.{mostSites}
+use Rattle.placing.specs.theorems.Decide.{eq-decides, both-decide, not-decides}
+use Rattle.placing.specs.rules.Answer.{Answer, answerOf, numbered, unbounded}
+use Rattle.placing.specs.theorems.Twice.{MeetingPair, meeting-decides, meeting-larger}
+use Rattle.placing.specs.theorems.Checked.{checkedTest, checked-right, passed, both-passed}
+use Rattle.plan.specs.declared.refusal.Outcome.the-variants.{Done, Refused}
+use Rattle.plan.specs.declared.refusal.Outcome.{Outcome}
+use Rattle.plan.specs.declared.refusal.Refusal.{Refusal}
+use Rattle.plan.specs.declared.refusal.Refusal.the-variants.{NoSites}
+use Rattle.plan.specs.declared.plan.Plan.{Plan}
+use Rattle.plan.specs.declared.plan.Planned.{Planned}
+use Rattle.plan.specs.rules.Refusal.{numberOf}
+use Rattle.plan.specs.rules.Name.{isName, nameBytes, sameBytes}
+use Rattle.plan.specs.rules.Site.{Site, placeAt, placesOf, nameTaken, placeTaken, Listed}
+use Rattle.plan.specs.rules.Enter.{Sites, accepted, refused, appended, entered, entered-listed, listed-none}
+use Rattle.plan.specs.rules.Plan.{unplaced, placed, answerIn, placed-answer, sites-unplaced}
+use Rattle.plan.specs.rules.Calls.{started, plannedOr, enteredIn, placedIn}
+
+-- A name and two numbers to enter.
+pub record Entry : Type 0 where
+  pub name : List ℕ
+  pub x : ℕ
+  pub y : ℕ
+
+-- What entries, and placing after them, lead to: this answer, or step number i, from 0, is refused with this number. The step
+-- after the last entry is placing.
+pub data End : Type 0 where
+  answered : Answer → End
+  refusedAt : (i number : ℕ) → End
+
+-- Entries, with what they lead to.
+pub record Row : Type 0 where
+  pub entries : List Entry
+  pub end : End
+
+-- ---- the table
+
+-- The name of one letter, at (x, y).
+abbrev pub at : (letter x y : ℕ) → Entry
+at letter x y = record { name = letter ∷ []; x = x; y = y }
+
+-- The list A, B, C, and the corners of its answer.
+abbrev pub column : List Entry
+column = at 65 10 10 ∷ at 66 10 14 ∷ at 67 10 20 ∷ []
+
+abbrev pub columnCorners : List ℕ
+columnCorners = 3 ∷ 1 ∷ 1 ∷ []
+
+-- Document 01's cases, in its order, and placing a plan of no sites.
+abbrev pub rows : List Row
+rows =
+    record { entries = at 65 5 5 ∷ []; end = answered (unbounded (1 ∷ [])) }
+    ∷ record { entries = at 65 0 0 ∷ at 66 1 0 ∷ []; end = answered (unbounded (2 ∷ 1 ∷ [])) }
+    ∷ record { entries = at 65 0 0 ∷ at 66 1 0 ∷ at 67 0 1 ∷ at 68 1 1 ∷ []; end = answered (unbounded (3 ∷ 4 ∷ 2 ∷ 1 ∷ [])) }
+    ∷ record { entries = at 65 0 0 ∷ at 66 1 1 ∷ at 67 2 2 ∷ at 68 3 3 ∷ []; end = answered (unbounded (3 ∷ 2 ∷ 4 ∷ 1 ∷ [])) }
+    ∷ record {
+      entries = at 65 0 0 ∷ at 66 1 1 ∷ at 67 2 2 ∷ at 68 3 3 ∷ at 69 4 4 ∷ [];
+      end = answered (numbered 4 (2 ∷ 4 ∷ 2 ∷ 4 ∷ 1 ∷ []));
+    }
+    ∷ record { entries = column; end = answered (numbered 6 columnCorners) }
+    ∷ record {
+      entries =
+          at 65 0 0 ∷ at 66 1 0 ∷ at 67 2 0 ∷ at 68 0 1 ∷ at 69 1 1 ∷ at 70 2 1 ∷ at 71 0 2 ∷ at 72 1 2 ∷ at 73 2 2 ∷ [];
+      end = answered (numbered 1 (1 ∷ 1 ∷ 1 ∷ 1 ∷ 1 ∷ 1 ∷ 1 ∷ 1 ∷ 1 ∷ []));
+    }
+    ∷ record { entries = at 65 10000 10000 ∷ []; end = answered (unbounded (1 ∷ [])) }
+    ∷ record { entries = at 65 10001 0 ∷ []; end = refusedAt 0 3 }
+    ∷ record { entries = at 65 0 10001 ∷ []; end = refusedAt 0 3 }
+    ∷ record { entries = at 65 5 5 ∷ at 66 5 5 ∷ []; end = refusedAt 1 5 }
+    ∷ record { entries = at 65 5 5 ∷ at 65 5 5 ∷ []; end = refusedAt 1 4 }
+    ∷ record { entries = []; end = refusedAt 0 8 }
+    ∷ []
+
+-- ---- what entries lead to
+
+-- What follows a step: nothing where it is refused.
+abbrev pub afterStep : (Plan → End) → ℕ → Outcome → Plan → End
+afterStep next i Done plan = next plan
+afterStep next i (Refused why) plan = refusedAt i (numberOf why)
+
+-- The same of what a call hands back.
+abbrev pub onward : (Plan → End) → ℕ → Planned → End
+onward next i planned = afterStep next i (planned .outcome) (planned .plan)
+
+-- Entries from number i on, into this plan, then placing with this work table.
+abbrev pub leadsFrom : List ℕ → ℕ → Plan → List Entry → End
+leadsFrom table i plan [] = onward (λ end. answered (answerIn end)) i (placedIn plan table)
+leadsFrom table i plan (entry ∷ entries) =
+    onward (λ more. leadsFrom table (suc i) more entries) i (enteredIn plan (entry .name) (entry .x) (entry .y))
+
+-- Into a started plan.
+abbrev pub leadsTo : List ℕ → List Entry → End
+leadsTo table entries = leadsFrom table 0 started entries
+
+-- ---- the same by sites, as it is computed
+
+-- Entered one after another: the sites of all, or the first step that is refused.
+data Run : Type 0 where
+  through : List Site → Run
+  stopped : (i : ℕ) → Refusal → Run
+
+-- What follows an entry: nothing where it is refused.
+abbrev runOn : (List Site → Run) → ℕ → Sites → Run
+runOn next i (accepted sites) = next sites
+runOn next i (refused why) = stopped i why
+
+-- Entries from number i on, after these sites; placing no sites is refused.
+abbrev runFrom : ℕ → List Site → List Entry → Run
+runFrom i [] [] = stopped i NoSites
+runFrom i (site ∷ sites) [] = through (site ∷ sites)
+runFrom i sites (entry ∷ entries) = runOn (λ more. runFrom (suc i) more entries) i (entered sites (entry .name) (entry .x) (entry .y))
+
+-- All sites have the answer for their places; a refusal is its number.
+abbrev endOf : Run → End
+endOf (through sites) = answered (answerOf (placesOf sites))
+endOf (stopped i why) = refusedAt i (numberOf why)
+
+module _ (table : List ℕ) (enough : mostSites * mostSites ≤ length table) where
+  -- Placing sites that are listed.
+  placing-run : (i : ℕ) (sites : List Site) → Listed sites → leadsFrom table i (unplaced sites) [] ≡ endOf (runFrom i sites [])
+  unfolding unplaced
+  placing-run i [] listed = refl
+  placing-run i (site ∷ sites) listed =
+      rw (
+        ne-eqb (length (site ∷ sites)) 0 (omega arith),
+        le-ltb (length table) (length (site ∷ sites) * length (site ∷ sites)) (le-trans (mul-le-mul (listed .few) (listed .few)) enough),
+      )
+      (ap answered
+      (ap (λ (held : List Site). answerIn (placed held)) (sites-unplaced (site ∷ sites) listed)
+      ∙ placed-answer (site ∷ sites) (listed .places-distinct)))
+
+  -- The calls on plans lead where the sites by themselves do.
+  leads-run : (i : ℕ) (sites : List Site) → Listed sites → (entries : List Entry)
+      → leadsFrom table i (unplaced sites) entries ≡ endOf (runFrom i sites entries)
+  leads-run i sites listed [] = placing-run i sites listed
+  leads-run i sites listed (entry ∷ entries) =
+      rw (sites-unplaced sites listed)
+      (step (λ more each. leads-run (suc i) more each entries) (entered sites (entry .name) (entry .x) (entry .y)) refl)
+    where
+      step : ((more : List Site) → Listed more → leadsFrom table (suc i) (unplaced more) entries ≡ endOf (runFrom (suc i) more entries))
+          → (after : Sites) → entered sites (entry .name) (entry .x) (entry .y) ≡ after
+          → onward (λ more. leadsFrom table (suc i) more entries) i (plannedOr (unplaced sites) after)
+          ≡ endOf (runOn (λ more. runFrom (suc i) more entries) i after)
+      step further (accepted more) e = further more (entered-listed sites (entry .name) (entry .x) (entry .y) more listed e)
+      step further (refused why) e = refl
+
+-- ---- the test of a row
+
+-- A run ends so: the answer is found by the search, the refusal has this place and number.
+abbrev endTest : Run → End → Bool
+endTest (through sites) (answered answer) = checkedTest (placesOf sites) answer
+endTest (through sites) (refusedAt i number) = false
+endTest (stopped j why) (answered answer) = false
+endTest (stopped j why) (refusedAt i number) = eqb j i && eqb (numberOf why) number
+
+abbrev rowTest : Row → Bool
+rowTest row = endTest (runFrom 0 [] (row .entries)) (row .end)
+
+abbrev rowsTest : List Row → Bool
+rowsTest [] = true
+rowsTest (row ∷ rows) = rowTest row && rowsTest rows
+
+-- An end that passes its test is right.
+end-right : (run : Run) (end : End) → T (endTest run end) → endOf run ≡ end
+end-right (through sites) (answered answer) test =
+    ap answered (checked-right (placesOf sites) answer test)
+end-right (through sites) (refusedAt i number) test = absurd test
+end-right (stopped j why) (answered answer) test = absurd test
+end-right (stopped j why) (refusedAt i number) test =
+    let same = passed (both-decide (eq-decides j i) (eq-decides (numberOf why) number)) test in
+    λ k. refusedAt (same .0 k) (same .1 k)
+
+-- So is that of every row of a list that passes.
+rows-right : (rows : List Row) → T (rowsTest rows) → (row : Row) → List·Memᴰ row rows → endOf (runFrom 0 [] (row .entries)) ≡ row .end
+rows-right [] test row member = absurd (List·Memᴰ·not-nil member)
+rows-right (first ∷ rows) test row member =
+    let parts = both-passed (rowTest first) (rowsTest rows) test in
+    ⊎-elim (λ same. end-right (runFrom 0 [] (row .entries)) (row .end) (subst (λ (r : Row). T (rowTest r)) (sym same) (parts .0)))
+    (rows-right rows (parts .1) row) (List·Memᴰ·cases-cons member)
+
+-- The entries of every row lead to its end, with a work table for 240 sites.
+pub known : (row : Row) → List·Memᴰ row rows → (table : List ℕ) → mostSites * mostSites ≤ length table → leadsTo table (row .entries) ≡ row .end
+unfolding entered appended isName nameBytes sameBytes nameTaken placeTaken
+known row member table enough = leads-run table enough 0 [] listed-none (row .entries) ∙ rows-right rows tt row member
+
+-- The places of entries.
+abbrev pub spots : List Entry → List Place
+spots entries = map (λ entry. placeAt (entry .x) (entry .y)) entries
+
+-- "Corners 3, 1, 1 do not meet up to side 12, so the factor two is reached."
+pub factor-two-reached : (p q : ℕ) → p ≤ 12 * q → MeetingPair p q (spots column) columnCorners → ⊥
+factor-two-reached p q fits pair =
+    passed (not-decides (meeting-decides 12 1 (spots column) columnCorners)) tt (meeting-larger (lit≤ tt) (omega arith) pair)

@@ -1,0 +1,206 @@
+-- The number and the value of each call's answer, from the equation that its contract gives.
+-- Assumes nothing.
+use mathlib.Core.Path.{_≡_, refl, ap, _∙_}
+use mathlib.Core.Bool.{Bool, true, false, not, _&&_}
+use mathlib.Core.List.{List, [], _∷_}
+use mathlib.Core.Option.{Option, some, none}
+use Prim.Native.Nat.{ℕ, _*_}
+use lib.Dec.{leb, ltb, eqb}
+use lib.ListN.{length}
+use Rattle.placing.specs.declared.units.Side.{Side}
+use Rattle.placing.specs.rules.Units.{greatestCoordinate}
+use Rattle.placing.specs.rules.Choice.{cornerAt}
+use Rattle.plan.specs.declared.refusal.Refusal.{Refusal}
+use Rattle.plan.specs.declared.refusal.Refusal.the-variants as refusal
+use Rattle.plan.specs.declared.plan.Plan.{Plan}
+use Rattle.plan.specs.declared.plan.Planned.{Planned}
+use Rattle.plan.specs.declared.plan.AskedSide.{AskedSide}
+use Rattle.plan.specs.declared.plan.AskedCorner.{AskedCorner}
+use Rattle.plan.specs.declared.plan.Written.{Written}
+use Rattle.plan.specs.rules.Refusal.{numberOf}
+use Rattle.plan.specs.rules.Text.{fieldsOf}
+use Rattle.plan.specs.rules.Number.{numberIn, asCoordinate, coordinateIn}
+use Rattle.plan.specs.rules.Name.{isName}
+use Rattle.plan.specs.rules.Site.{Site, placeAt, nameTaken, placeTaken}
+use Rattle.plan.specs.rules.Enter.{Sites, accepted, refused, refusedIf, appended, entered}
+use Rattle.plan.specs.rules.List.{withCoordinates, enteredFields, enteredLine, readList}
+use Rattle.plan.specs.rules.Sheet.{sheetOf}
+use Rattle.plan.specs.rules.Plan.{sitesIn, Valid}
+use Rattle.plan.specs.rules.Calls.{
+  outcomeNumber,
+  sideAskedNumber,
+  sideCarried,
+  cornerAskedNumber,
+  cornerCarried,
+  writtenNumber,
+  writtenLength,
+  numberIf,
+  carriedAt,
+  started,
+  plannedOr,
+  enteredIn,
+  enterNumber,
+  readFrom,
+  sitesNumber,
+  readNumber,
+  enterReadNumber,
+  fieldsNumber,
+  placeWhere,
+  placedIn,
+  placeNumber,
+  answerFor,
+  sideWhere,
+  sideAsked,
+  askSideNumber,
+  cornerWhere,
+  cornerAsked,
+  askCornerNumber,
+  writeWhere,
+  written,
+  writeNumber,
+}
+
+-- ---- enter and read
+
+-- A test of the sites is the same test of the number.
+number-if : (b : Bool) (why : Refusal) (otherwise : Sites) → sitesNumber (refusedIf b why otherwise) ≡ numberIf b (numberOf why) (sitesNumber otherwise)
+number-if true why otherwise = refl
+number-if false why otherwise = refl
+
+-- The tests of entering, one after another.
+entered-number : (sites : List Site) (name : List ℕ) (x y : ℕ) → sitesNumber (entered sites name x y) ≡ enterNumber sites name x y
+unfolding entered appended
+entered-number sites name x y =
+    number-if (not (isName name)) refusal.Name _
+    ∙ ap (numberIf (not (isName name)) 2)
+    (number-if (not (leb x greatestCoordinate && leb y greatestCoordinate)) refusal.Coordinate _
+    ∙ ap (numberIf (not (leb x greatestCoordinate && leb y greatestCoordinate)) 3)
+    (number-if (leb 240 (length sites)) refusal.Full _
+    ∙ ap (numberIf (leb 240 (length sites)) 7)
+    (number-if (nameTaken sites name) refusal.NameTaken _
+    ∙ ap (numberIf (nameTaken sites name) 4)
+    (number-if (placeTaken sites (placeAt x y)) refusal.PlaceTaken _))))
+
+-- The numbers of a line are entered: by the tests of entering, where the name is one.
+coordinates-entered : (sites : List Site) (name : List ℕ) (n m : ℕ) → isName name ≡ true
+    → withCoordinates (asCoordinate (some n)) (asCoordinate (some m)) sites name ≡ entered sites name n m
+unfolding entered
+coordinates-entered sites name n m named = rw named (by-tests (leb n greatestCoordinate) (leb m greatestCoordinate))
+  where
+    by-tests : (p q : Bool) → withCoordinates (elim p [ true ↦ some n | false ↦ none ]) (elim q [ true ↦ some m | false ↦ none ]) sites name
+        ≡ refusedIf (not (p && q)) refusal.Coordinate (appended sites (record { name = name; place = placeAt n m }))
+    by-tests false q = refl
+    by-tests true false = refl
+    by-tests true true = refl
+
+-- So they give the number of entering them.
+coordinates-number : (sites : List Site) (name : List ℕ) → isName name ≡ true → (x y : Option ℕ)
+    → sitesNumber (withCoordinates (asCoordinate x) (asCoordinate y) sites name) ≡ enterReadNumber sites name x y
+coordinates-number sites name named none y = refl
+coordinates-number sites name named (some n) none = by-test (leb n greatestCoordinate)
+  where
+    by-test : (p : Bool) → sitesNumber (withCoordinates (elim p [ true ↦ some n | false ↦ none ]) none sites name) ≡ 3
+    by-test true = refl
+    by-test false = refl
+coordinates-number sites name named (some n) (some m) =
+    ap sitesNumber (coordinates-entered sites name n m named) ∙ entered-number sites name n m
+
+-- A line's fields give the number of the first test that fails.
+fields-number : (sites : List Site) (fields : List (List ℕ)) → sitesNumber (enteredFields sites fields) ≡ fieldsNumber sites fields
+fields-number sites [] = refl
+fields-number sites (name ∷ []) = refl
+fields-number sites (name ∷ x ∷ []) = refl
+fields-number sites (name ∷ x ∷ y ∷ []) = by-name (isName name) refl
+  where
+    by-name : (named : Bool) → isName name ≡ named
+        → sitesNumber (refusedIf (not named) refusal.Name (withCoordinates (coordinateIn x) (coordinateIn y) sites name))
+        ≡ numberIf (not named) 2 (enterReadNumber sites name (numberIn x) (numberIn y))
+    by-name true named = coordinates-number sites name named (numberIn x) (numberIn y)
+    by-name false named = refl
+fields-number sites (name ∷ x ∷ y ∷ other ∷ fields) = refl
+
+-- So does a line.
+pub line-number : (sites : List Site) (line : List ℕ) → sitesNumber (enteredLine sites line) ≡ fieldsNumber sites (fieldsOf line)
+unfolding enteredLine
+line-number sites line = fields-number sites (fieldsOf line)
+
+-- The plan that is handed back tells the number of the sites.
+planned-number : (other : Plan) (sites : Sites) → outcomeNumber (plannedOr other sites .outcome) ≡ sitesNumber sites
+planned-number other (accepted sites) = refl
+planned-number other (refused why) = refl
+
+-- Entering gives the number of its first test that fails.
+pub enter-told : {r : Planned} (plan : Plan) (name : List ℕ) (x y : ℕ) → (r ≡ enteredIn plan name x y) × Valid (r .plan)
+    → (r ≡ enteredIn plan name x y) × (Valid (r .plan) × (outcomeNumber (r .outcome) ≡ enterNumber (sitesIn plan) name x y))
+enter-told plan name x y both =
+    let number =
+    ap (λ (p : Planned). outcomeNumber (p .outcome)) (both .0) ∙ planned-number plan (entered (sitesIn plan) name x y)
+    ∙ entered-number (sitesIn plan) name x y
+    in
+    (both .0, (both .1, number))
+
+-- Reading gives that of its first refused line.
+pub read-told : {r : Planned} (text : List ℕ) → (r ≡ readFrom text) × Valid (r .plan)
+    → (r ≡ readFrom text) × (Valid (r .plan) × (outcomeNumber (r .outcome) ≡ readNumber text))
+read-told text both =
+    let number = ap (λ (p : Planned). outcomeNumber (p .outcome)) (both .0) ∙ planned-number started (readList text) in
+    (both .0, (both .1, number))
+
+-- ---- place
+
+-- Placing gives the number of its first test that fails.
+pub place-number : {r : Planned} (plan : Plan) (table : List ℕ) → r ≡ placedIn plan table → outcomeNumber (r .outcome) ≡ placeNumber plan table
+place-number plan table is =
+    ap (λ (p : Planned). outcomeNumber (p .outcome)) is
+    ∙ by-tests (eqb (plan .count) 0) (ltb (length table) (plan .count * plan .count))
+  where
+    by-tests : (none short : Bool) → outcomeNumber (placeWhere none short plan .outcome) ≡ numberIf none 8 (numberIf short 11 0)
+    by-tests true short = refl
+    by-tests false true = refl
+    by-tests false false = refl
+
+-- ---- side and corner
+
+-- Asking the side gives 9, or the side.
+pub side-told : {r : AskedSide} (plan : Plan) → r ≡ sideAsked plan
+    → (sideAskedNumber r ≡ askSideNumber plan) × (sideCarried r ≡ carriedAt (askSideNumber plan) (answerFor plan .side))
+side-told plan is =
+    let told = by-test (plan .placed) (answerFor plan .side) in (ap sideAskedNumber is ∙ told .0, ap sideCarried is ∙ told .1)
+  where
+    by-test : (placed : Bool) (side : Side) → (sideAskedNumber (sideWhere placed side) ≡ numberIf (not placed) 9 0)
+        × (sideCarried (sideWhere placed side) ≡ carriedAt (numberIf (not placed) 9 0) side)
+    by-test true side = (refl, refl)
+    by-test false side = (refl, refl)
+
+-- Asking a corner gives 9, 6, or the corner.
+pub corner-told : {r : AskedCorner} (plan : Plan) (i : ℕ) → r ≡ cornerAsked plan i
+    → (cornerAskedNumber r ≡ askCornerNumber plan i)
+    × (cornerCarried r ≡ carriedAt (askCornerNumber plan i) (cornerAt (answerFor plan .corners) i))
+corner-told plan i is =
+    let told = by-tests (plan .placed) (leb (plan .count) i) (cornerAt (answerFor plan .corners) i) in
+    (ap cornerAskedNumber is ∙ told .0, ap cornerCarried is ∙ told .1)
+  where
+    by-tests : (placed outside : Bool) (corner : ℕ)
+        → (cornerAskedNumber (cornerWhere placed outside corner) ≡ numberIf (not placed) 9 (numberIf outside 6 0))
+        × (cornerCarried (cornerWhere placed outside corner) ≡ carriedAt (numberIf (not placed) 9 (numberIf outside 6 0)) corner)
+    by-tests false outside corner = (refl, refl)
+    by-tests true true corner = (refl, refl)
+    by-tests true false corner = (refl, refl)
+
+-- ---- write
+
+-- Writing gives 9, 10, or the sheet's length.
+pub write-told : {r : Written} (plan : Plan) (buffer : List ℕ) → r ≡ written plan buffer
+    → (writtenNumber r ≡ writeNumber plan buffer)
+    × (writtenLength r ≡ carriedAt (writeNumber plan buffer) (length (sheetOf (sitesIn plan))))
+write-told plan buffer is =
+    let sheet = sheetOf (sitesIn plan) in
+    let told = by-tests (plan .placed) (ltb (length buffer) (length sheet)) sheet in
+    (ap writtenNumber is ∙ told .0, ap writtenLength is ∙ told .1)
+  where
+    by-tests : (placed short : Bool) (sheet : List ℕ)
+        → (writtenNumber (writeWhere placed short sheet) ≡ numberIf (not placed) 9 (numberIf short 10 0))
+        × (writtenLength (writeWhere placed short sheet) ≡ carriedAt (numberIf (not placed) 9 (numberIf short 10 0)) (length sheet))
+    by-tests false short sheet = (refl, refl)
+    by-tests true true sheet = (refl, refl)
+    by-tests true false sheet = (refl, refl)

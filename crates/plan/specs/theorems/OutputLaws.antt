@@ -1,0 +1,76 @@
+-- The output for a text meets the three demands, and is at most 5,531 bytes long.
+-- Assumes nothing.
+use mathlib.Core.Path.{_≡_, refl, ap}
+use mathlib.Core.List.{List, [], _∷_}
+use Prim.Native.Nat.{ℕ, _≤_}
+use native.Mathlib.Omega.{arith}
+use lib.ListN.{length}
+use Rattle.placing.specs.rules.Answer.{answerOf, answer-is}
+use Rattle.plan.specs.declared.refusal.Refusal.the-variants.{NoSites}
+use Rattle.plan.specs.rules.Site.{Site, placesOf, Listed}
+use Rattle.plan.specs.rules.Enter.{Sites, accepted, refused}
+use Rattle.plan.specs.rules.List.{readList, read-listed}
+use Rattle.plan.specs.rules.Sheet.{sheetOf, sheet-longest}
+use Rattle.plan.specs.rules.Calls.{sitesNumber}
+use Rattle.plan.specs.rules.Output.{numberLine, refusalLine, outputFor, outputOf, output-sheet}
+use Rattle.plan.specs.code.Refusing.{refusal-short}
+use Rattle.plan.specs.Demands.{Accepts, Answered, Right, ReadsOff, Demanded}
+use Rattle.plan.specs.theorems.SheetLaws.{text-again, output-again, no-rival, number-on-sheet, no-number-on-sheet, spots-on-sheet}
+
+-- Demand 1: the output is the sheet, or the line with the number.
+output-answered : (text : List ℕ) → Answered text (outputOf text)
+unfolding outputOf refusalLine
+output-answered text =
+    record {
+      line-refused = by-sites (readList text);
+      none-refused = λ read. ap outputFor read;
+      accepts = λ sites accepts. output-sheet text sites (accepts .read) (accepts .some-sites);
+    }
+  where
+    by-sites : (sites : Sites) → (sitesNumber sites ≡ 0 → ⊥) → outputFor sites ≡ numberLine (sitesNumber sites)
+    by-sites (accepted sites) is-refused = absurd (is-refused refl)
+    by-sites (refused why) is-refused = refl
+
+-- Demand 2: the sheet prints the answer, and carries the list.
+output-right : (text : List ℕ) (sites : List Site) → Accepts text sites → Right text sites (outputOf text)
+unfolding sheetOf
+output-right text sites accepts =
+    let listed = read-listed text sites (accepts .read) in
+    record {
+      answer = answerOf (placesOf sites);
+      is-answer = answer-is (placesOf sites) (listed .places-distinct);
+      prints = output-sheet text sites (accepts .read) (accepts .some-sites);
+      carries = text-again text sites (accepts .read) (accepts .some-sites);
+      again = output-again text sites (accepts .read) (accepts .some-sites);
+    }
+
+-- The number and the spots on a sheet are those of its sites.
+pub sheet-reads : (sites : List Site) → Listed sites → ReadsOff (placesOf sites) (sheetOf sites)
+sheet-reads sites listed =
+    record {
+      number = λ side is. number-on-sheet sites side listed is;
+      no-number = λ is. no-number-on-sheet sites listed is;
+      spots = spots-on-sheet sites listed;
+    }
+
+-- All three.
+pub output-demanded : (text : List ℕ) → Demanded text (outputOf text)
+output-demanded text =
+    record {
+      answered = output-answered text;
+      right = output-right text;
+      no-rival = λ sites accepts.
+          rw (output-sheet text sites (accepts .read) (accepts .some-sites)) (no-rival sites (read-listed text sites (accepts .read)));
+      reads-off = λ sites accepts.
+          rw (output-sheet text sites (accepts .read) (accepts .some-sites)) (sheet-reads sites (read-listed text sites (accepts .read)));
+    }
+
+-- The longest output is a sheet: a program that lends 5,531 bytes is never refused.
+pub output-longest : (text : List ℕ) → length (outputOf text) ≤ 5531
+unfolding outputOf
+output-longest text = by-sites (readList text) refl
+  where
+    by-sites : (sites : Sites) → readList text ≡ sites → length (outputFor sites) ≤ 5531
+    by-sites (accepted []) read = omega (arith, refusal-short NoSites)
+    by-sites (accepted (site ∷ sites)) read = sheet-longest (site ∷ sites) (read-listed text (site ∷ sites) read)
+    by-sites (refused why) read = omega (arith, refusal-short why)

@@ -1,0 +1,200 @@
+-- What is read off a sheet is what was written on it: demand 2's list, demand 3's number and spots, and demand 3 itself.
+-- Assumes nothing.
+use mathlib.Core.Path.{_≡_, refl, sym, ap, _∙_, subst}
+use mathlib.Core.List.{List, [], _∷_, _++_, append-assoc}
+use mathlib.Core.Option.{Option, some, none}
+use Prim.Native.Nat.{ℕ, _*_, _≤_, _<_}
+use native.Mathlib.Omega.{arith}
+use lib.ListN.{length}
+use Rattle.placing.specs.declared.units.HalfUnits.{HalfUnits}
+use Rattle.placing.specs.declared.units.Place.{Place}
+use Rattle.placing.specs.declared.units.Side.{Side}
+use Rattle.placing.specs.declared.units.Side.the-variants.{Number, Free}
+use Rattle.placing.specs.rules.Units.{xOf, yOf}
+use Rattle.placing.specs.rules.Choice.{Corners}
+use Rattle.placing.specs.rules.Answer.{Answer, answerOf, IsAnswer, is-free, is-number, answer-is}
+use Rattle.placing.specs.theorems.Twice.{MeetingPair, answer-twice}
+use Rattle.plan.specs.declared.refusal.Refusal.{Refusal}
+use Rattle.plan.specs.rules.Refusal.{numberOf}
+use Rattle.plan.specs.rules.Text.{tab, lineFeed, fieldsOf, Without, without-append, lines-more, fields-one, fields-more}
+use Rattle.plan.specs.rules.Number.{numberIn, digitsAfter, decimal, number-decimal, decimal-without}
+use Rattle.plan.specs.rules.Name.{sameBytes, name-without}
+use Rattle.plan.specs.rules.Site.{Site, placesOf, Listed, ByRules}
+use Rattle.plan.specs.rules.Enter.{accepted}
+use Rattle.plan.specs.rules.List.{readList, listLine, listText, read-listed, list-read, read-list}
+use Rattle.plan.specs.rules.Sheet.{
+  sideWord,
+  sideText,
+  sheetOf,
+  sideLine,
+  siteLine,
+  lineOfEach,
+  Lined,
+  no-line,
+  one-more,
+  answer-lined,
+  side-without,
+  sheet-lines,
+}
+use Rattle.plan.specs.rules.ReadOff.{
+  numberOnFields,
+  numberOnLine,
+  numberOn,
+  spotIn,
+  spotsOnLines,
+  spotsOn,
+  underFirst,
+  withoutLast,
+  carriedLines,
+  carried,
+}
+use Rattle.plan.specs.rules.Output.{refusedWord, refusalLine, outputOf, output-sheet}
+use Rattle.plan.specs.Demands.{NoRival}
+
+-- ---- fields
+
+-- The first line's fields are the word side and the side.
+side-fields : (side : Side) → fieldsOf (sideLine side) ≡ sideWord ∷ sideText side ∷ []
+side-fields side =
+    fields-more sideWord (sideText side) (omega arith, (omega arith, (omega arith, (omega arith, tt))))
+    ∙ ap (λ (fields : List (List ℕ)). sideWord ∷ fields) (fields-one (sideText side) (side-without tab (omega arith) side))
+
+-- A site line's fields are name, x, y and corner.
+line-fields : {site : Site} (corner : ℕ) → ByRules site
+    → fieldsOf (siteLine site corner) ≡ site .name ∷ decimal (xOf (site .place)) ∷ decimal (yOf (site .place)) ∷ decimal corner ∷ []
+unfolding listLine
+line-fields {site} corner rules =
+    rw (
+      append-assoc (site .name ++ (tab ∷ x)) (tab ∷ y) (tab ∷ decimal corner),
+      append-assoc (site .name) (tab ∷ x) ((tab ∷ y) ++ (tab ∷ decimal corner)),
+      fields-more (site .name) (x ++ (tab ∷ (y ++ (tab ∷ decimal corner)))) (name-without (site .name) tab (omega arith) (rules .named)),
+      fields-more x (y ++ (tab ∷ decimal corner)) (number (xOf (site .place))),
+      fields-more y (decimal corner) (number (yOf (site .place))),
+      fields-one (decimal corner) (number corner),
+    )
+  where
+    x : List ℕ
+    x = decimal (xOf (site .place))
+
+    y : List ℕ
+    y = decimal (yOf (site .place))
+
+    number : (n : ℕ) → Without tab (decimal n)
+    number n = decimal-without n tab (omega arith)
+
+-- ---- the list that a sheet carries
+
+-- A site line without its corner is the site's line of the list.
+line-carried : {site : Site} (corner : ℕ) → ByRules site → withoutLast (fieldsOf (siteLine site corner)) ≡ listLine site
+unfolding withoutLast listLine
+line-carried {site} corner rules =
+    ap withoutLast (line-fields corner rules)
+    ∙ sym (append-assoc (site .name) (tab ∷ decimal (xOf (site .place))) (tab ∷ decimal (yOf (site .place))))
+
+-- So the site lines carry the list.
+lines-carried : {sites : List Site} {corners : List ℕ} → Lined sites corners → carriedLines (lineOfEach sites corners) ≡ listText sites
+unfolding carriedLines lineOfEach listText
+lines-carried no-line = refl
+lines-carried (one-more {site} {sites} {corner} {corners} rules c rest) = rw (line-carried corner rules, lines-carried rest)
+
+-- Demand 2: "Leaving out the first line and, of each other line, the last field with the tab before it gives the list back."
+pub sheet-carries : (sites : List Site) → Listed sites → carried (sheetOf sites) ≡ listText sites
+sheet-carries sites listed =
+    ap (λ (lines : List (List ℕ)). carriedLines (underFirst lines)) (sheet-lines sites listed) ∙ lines-carried (answer-lined sites listed)
+
+-- That list, read again, placed and written, gives the same bytes.
+pub sheet-again : (sites : List Site) → Listed sites → 1 ≤ length sites → outputOf (carried (sheetOf sites)) ≡ sheetOf sites
+sheet-again sites listed nonempty =
+    ap outputOf (sheet-carries sites listed) ∙ output-sheet (listText sites) sites (list-read sites listed) nonempty
+
+-- For a text that is read: its output carries the text,
+pub text-again : (text : List ℕ) (sites : List Site) → readList text ≡ accepted sites → 1 ≤ length sites → carried (outputOf text) ≡ text
+text-again text sites read nonempty =
+    ap carried (output-sheet text sites read nonempty) ∙ sheet-carries sites (read-listed text sites read) ∙ read-list text sites read
+
+-- and the text it carries has the same output.
+pub output-again : (text : List ℕ) (sites : List Site) → readList text ≡ accepted sites → 1 ≤ length sites
+    → outputOf (carried (outputOf text)) ≡ outputOf text
+output-again text sites read nonempty = ap outputOf (text-again text sites read nonempty)
+
+-- ---- the number and the spots
+
+-- The number of a side, where it is one.
+abbrev pub sideNumber : Side → Option ℕ
+sideNumber (Number side) = some (side .0)
+sideNumber Free = none
+
+-- An answer's side is read as it was written: the word free is no number.
+side-read : {ps : List Place} {a : Answer} → IsAnswer ps a → numberIn (sideText (a .side)) ≡ sideNumber (a .side)
+unfolding numberIn digitsAfter
+side-read (is-free first) = refl
+side-read (is-number {h} none-free least most first above) = number-decimal h (omega arith)
+
+-- The number on a sheet is the side that it prints, where that is a number:
+pub number-read : (sites : List Site) → Listed sites → numberOn (sheetOf sites) ≡ sideNumber (answerOf (placesOf sites) .side)
+unfolding sameBytes
+number-read sites listed =
+    ap numberOnLine (sheet-lines sites listed)
+    ∙ ap numberOnFields (side-fields (answerOf (placesOf sites) .side))
+    ∙ side-read (answer-is (placesOf sites) (listed .places-distinct))
+
+-- a side h is read as h,
+pub number-on-sheet : (sites : List Site) (h : HalfUnits) → Listed sites → answerOf (placesOf sites) .side ≡ Number h
+    → numberOn (sheetOf sites) ≡ some (h .0)
+number-on-sheet sites h listed is = number-read sites listed ∙ ap sideNumber is
+
+-- and free as no number.
+pub no-number-on-sheet : (sites : List Site) → Listed sites → answerOf (placesOf sites) .side ≡ Free → numberOn (sheetOf sites) ≡ none
+no-number-on-sheet sites listed is = number-read sites listed ∙ ap sideNumber is
+
+-- Nor has the line of a refusal a number.
+pub no-number-on-refusal : (why : Refusal) → numberOn (refusalLine why) ≡ none
+unfolding refusalLine sameBytes
+no-number-on-refusal why =
+    ap numberOnLine (lines-more (refusedWord ++ (tab ∷ number)) [] (without-append lineFeed refusedWord (tab ∷ number)
+    (word lineFeed (omega arith)) (omega arith, decimal-without (numberOf why) lineFeed (omega arith))))
+    ∙ ap numberOnFields
+    (fields-more refusedWord number (word tab (omega arith))
+    ∙ ap (λ (fields : List (List ℕ)). refusedWord ∷ fields) (fields-one number (decimal-without (numberOf why) tab (omega arith))))
+  where
+    number : List ℕ
+    number = decimal (numberOf why)
+
+    word : (b : ℕ) → b < 48 → Without b refusedWord
+    word b below = (omega arith, (omega arith, (omega arith, (omega arith, (omega arith, (omega arith, (omega arith, tt)))))))
+
+-- The spot on a site line is the site's place.
+line-spot : {site : Site} (corner : ℕ) → ByRules site → spotIn (fieldsOf (siteLine site corner)) ≡ site .place
+line-spot {site} corner rules =
+    rw (line-fields corner rules, number-decimal (xOf (site .place)) (omega arith), number-decimal (yOf (site .place)) (omega arith))
+
+-- So the spots on the site lines are the places.
+lines-spots : {sites : List Site} {corners : List ℕ} → Lined sites corners → spotsOnLines (lineOfEach sites corners) ≡ placesOf sites
+unfolding spotsOnLines lineOfEach
+lines-spots no-line = refl
+lines-spots (one-more {site} {sites} {corner} {corners} rules c rest) = rw (line-spot corner rules, lines-spots rest)
+
+-- The spots on a sheet are the places of the sites.
+pub spots-on-sheet : (sites : List Site) → Listed sites → spotsOn (sheetOf sites) ≡ placesOf sites
+spots-on-sheet sites listed =
+    ap (λ (lines : List (List ℕ)). spotsOnLines (underFirst lines)) (sheet-lines sites listed) ∙ lines-spots (answer-lined sites listed)
+
+-- ---- demand 3
+
+-- Above twice the number of an answer's side every choice has two labels that meet.
+rivals : {ps : List Place} {a : Answer} → IsAnswer ps a → (number p q : ℕ) → sideNumber (a .side) ≡ some number → 1 ≤ q → 2 * number * q < p
+    → (corners : List ℕ) → Corners (length ps) corners → MeetingPair p q ps corners
+rivals (is-free first) number p q is one more = let z : _≡_ {A = ℕ} 0 1 = cc in absurd (omega arith)
+rivals (is-number {h} none-free least most first above) number p q is one more =
+    let same : number ≡ h = cc in
+    answer-twice (is-number none-free least most first above) p q one (subst (λ (n : ℕ). 2 * n * q < p) same more)
+
+-- Demand 3: a sheet has no rival without two labels that meet.
+pub no-rival : (sites : List Site) → Listed sites → NoRival (sheetOf sites)
+no-rival sites listed =
+    record {
+      rivals-meet = λ number p q is one more.
+          subst (λ (spots : List Place). (corners : List ℕ) → Corners (length spots) corners → MeetingPair p q spots corners)
+          (sym (spots-on-sheet sites listed))
+          (rivals (answer-is (placesOf sites) (listed .places-distinct)) number p q (sym (number-read sites listed) ∙ is) one more);
+    }

@@ -6,6 +6,7 @@ use crate::trial::Attempt;
 use crate::trial::State;
 use crate::trial::try_corner;
 use crate::units::HalfUnits;
+use crate::units::Limits;
 ghost use mathlib.Core.Path.{_≡_};
 ghost use Prim.Native.Nat.{_+_, _<_};
 ghost use Rattle.placing.specs.rules.Choice.{cornerAt};
@@ -19,13 +20,13 @@ ghost use Rattle.placing.specs.code.Chosen.{choiceIn};
 // The corners of a good choice, where there is one.
 pub(crate) struct Chosen {
     pub ok: bool,
-    pub corners: [u8; 240],
+    pub corners: [u8; Limits::SITES],
 }
 
 // Decides site `i` by its lowest open corner whose trial does not fail. No where all fail.
 fn choose_corner(
-    xs: &[u32; 240],
-    ys: &[u32; 240],
+    xs: &[u32; Limits::SITES],
+    ys: &[u32; Limits::SITES],
     n: usize,
     side: HalfUnits,
     state: State,
@@ -52,8 +53,8 @@ fn choose_corner(
 
 // Decides all sites in list order. No where there is no good choice.
 fn walk(
-    xs: &[u32; 240],
-    ys: &[u32; 240],
+    xs: &[u32; Limits::SITES],
+    ys: &[u32; Limits::SITES],
     n: usize,
     side: HalfUnits,
     start: State,
@@ -80,8 +81,8 @@ fn walk(
 
 // The first good choice at a side, or none.
 pub(crate) fn choose(
-    xs: &[u32; 240],
-    ys: &[u32; 240],
+    xs: &[u32; Limits::SITES],
+    ys: &[u32; Limits::SITES],
     n: usize,
     crowding: Crowding,
     side: HalfUnits,

@@ -13,10 +13,10 @@ ghost use Rattle.placing.specs.code.Crowding.{apart, Lowered, Nearer, Si
 
 // For each corner, a number for each site: at the sides above it the corner is crowded.
 pub(crate) struct Crowding {
-    pub first: [u32; 240],
-    pub second: [u32; 240],
-    pub third: [u32; 240],
-    pub fourth: [u32; 240],
+    pub first: [u32; Limits::SITES],
+    pub second: [u32; Limits::SITES],
+    pub third: [u32; Limits::SITES],
+    pub fourth: [u32; Limits::SITES],
 }
 
 // The numbers of one site.
@@ -70,7 +70,7 @@ fn nearer(above: Above, s: Place, t: Place) -> Above
 }
 
 // The numbers of site `i`.
-fn crowded_above(xs: &[u32; 240], ys: &[u32; 240], n: usize, i: usize) -> Above
+fn crowded_above(xs: &[u32; Limits::SITES], ys: &[u32; Limits::SITES], n: usize, i: usize) -> Above
     requires { ⌜ Held n (now xs) (now ys) judgedFree × (i < n) ⌝ }
     ensures { λ r. ⌜ SiteCrowding (sitesOf n (now (xs .entry)) (now (ys .entry))) i r ⌝ }
 {
@@ -97,14 +97,18 @@ fn crowded_above(xs: &[u32; 240], ys: &[u32; 240], n: usize, i: usize) -> Above
 }
 
 // The numbers of all sites.
-pub(crate) fn crowding_of(xs: &[u32; 240], ys: &[u32; 240], n: usize) -> Crowding
+pub(crate) fn crowding_of(
+    xs: &[u32; Limits::SITES],
+    ys: &[u32; Limits::SITES],
+    n: usize,
+) -> Crowding
     requires { ⌜ Held n (now xs) (now ys) judgedFree ⌝ }
     ensures { λ r. ⌜ CrowdingIs (sitesOf n (now (xs .entry)) (now (ys .entry))) n r ⌝ }
 {
-    let mut first = [0u32; 240];
-    let mut second = [0u32; 240];
-    let mut third = [0u32; 240];
-    let mut fourth = [0u32; 240];
+    let mut first = [0u32; Limits::SITES];
+    let mut second = [0u32; Limits::SITES];
+    let mut third = [0u32; Limits::SITES];
+    let mut fourth = [0u32; Limits::SITES];
     for i in 0..n {
         let above = crowded_above(xs, ys, n, i);
         first[i] = above.first;

@@ -2,6 +2,7 @@
 use crate::crowding::Crowding;
 use crate::trial::State;
 use crate::units::HalfUnits;
+use crate::units::Limits;
 ghost use mathlib.Core.Path.{_≡_};
 ghost use Prim.Native.Nat.{_≤_, _<_};
 ghost use lib.ListN.{length};
@@ -16,7 +17,7 @@ fn is_open(above: u32, side: HalfUnits) -> u8
 
 // Writes the four bytes of site `i`, by the numbers of its four corners.
 fn open_row(
-    ways: &mut [u8; 960],
+    ways: &mut [u8; Limits::WAYS],
     first: u32,
     second: u32,
     third: u32,
@@ -43,10 +44,10 @@ pub(crate) fn fresh_state(crowding: Crowding, n: usize, side: HalfUnits) -> Stat
     let second = crowding.second;
     let third = crowding.third;
     let fourth = crowding.fourth;
-    let mut ways = [0u8; 960];
+    let mut ways = [0u8; Limits::WAYS];
     for i in 0..n {
         open_row(&mut ways, first[i], second[i], third[i], fourth[i], side, i);
     }
-    let decided = [0u8; 240];
+    let decided = [0u8; Limits::SITES];
     State { ways, decided }
 }

@@ -1,6 +1,7 @@
 // Placing a list of places.
 use crate::side::Placed;
 use crate::side::find_answer;
+use crate::units::Limits;
 use crate::units::Place;
 ghost use mathlib.Core.Path.{_≡_};
 ghost use mathlib.Core.List.{_++_};
@@ -11,16 +12,16 @@ ghost use Rattle.placing.specs.code.Placed.{placedAs, MayPlace, Coordina
 
 // The places of a list, an array for each axis: a trial reads single numbers.
 pub(crate) struct Coordinates {
-    pub xs: [u32; 240],
-    pub ys: [u32; 240],
+    pub xs: [u32; Limits::SITES],
+    pub ys: [u32; Limits::SITES],
 }
 
-fn coordinates_of(sites: [Place; 240], n: usize) -> Coordinates
+fn coordinates_of(sites: [Place; Limits::SITES], n: usize) -> Coordinates
     requires { ⌜ n ≤ 240 ⌝ }
     ensures { λ r. ⌜ CoordinatesOf n sites (r .xs) (r .ys) ⌝ }
 {
-    let mut xs = [0u32; 240];
-    let mut ys = [0u32; 240];
+    let mut xs = [0u32; Limits::SITES];
+    let mut ys = [0u32; Limits::SITES];
     for i in 0..n {
         let s = sites[i];
         xs[i] = s.x.0;
@@ -40,7 +41,7 @@ fn clear(table: &mut [u8], m: usize)
 }
 
 // The answer for the first `n` of these sites. The lent table holds `n` bytes while a corner is tried.
-pub fn place_labels(sites: [Place; 240], n: usize, table: &mut [u8]) -> Placed
+pub fn place_labels(sites: [Place; Limits::SITES], n: usize, table: &mut [u8]) -> Placed
     requires { ⌜ MayPlace n sites (now table) ⌝ }
     ensures answer { λ r. ⌜ r ≡ placedAs (answerOf (take n sites)) ⌝ }
     ensures table { λ r. ⌜ now (table .exit) ≡ replicate (n * n) 0 ++ drop (n * n) (now (table .entry)) ⌝ }

@@ -17,15 +17,15 @@ ghost use Rattle.placing.specs.code.Placed.{placedAs, MayFind, MayBisect
 // The placed answer: the side, and the corner of each site in list order, 0 past the last.
 pub struct Placed {
     pub side: Side,
-    pub corners: [u8; 240],
+    pub corners: [u8; Limits::SITES],
 }
 
 // The corners of the first `n` sites, 0 past them.
-fn first_corners(corners: [u8; 240], n: usize) -> [u8; 240]
+fn first_corners(corners: [u8; Limits::SITES], n: usize) -> [u8; Limits::SITES]
     requires { ⌜ n ≤ 240 ⌝ }
     ensures { λ r. ⌜ r ≡ take n corners ++ replicate (240 - n) 0 ⌝ }
 {
-    let mut first = [0u8; 240];
+    let mut first = [0u8; Limits::SITES];
     for i in 0..n {
         first[i] = corners[i];
     }
@@ -35,8 +35,8 @@ fn first_corners(corners: [u8; 240], n: usize) -> [u8; 240]
 // The greatest side that has a good choice, where 20,001 has none. At 1 every choice is good, and corner 1 everywhere is the
 // first.
 fn bisect(
-    xs: &[u32; 240],
-    ys: &[u32; 240],
+    xs: &[u32; Limits::SITES],
+    ys: &[u32; Limits::SITES],
     n: usize,
     crowding: Crowding,
     marks: &mut [u8],
@@ -47,7 +47,7 @@ fn bisect(
 {
     let mut low = Limits::LEAST_SIDE;
     let mut high = Limits::FREE_SIDE;
-    let mut corners = [1u8; 240];
+    let mut corners = [1u8; Limits::SITES];
     while low + 1 < high {
         let middle = low + (high - low) / 2;
         let chosen = choose(xs, ys, n, crowding, HalfUnits(middle), marks);
@@ -67,7 +67,12 @@ fn bisect(
 }
 
 // The answer for the first `n` sites at these coordinates.
-pub(crate) fn find_answer(xs: &[u32; 240], ys: &[u32; 240], n: usize, marks: &mut [u8]) -> Placed
+pub(crate) fn find_answer(
+    xs: &[u32; Limits::SITES],
+    ys: &[u32; Limits::SITES],
+    n: usize,
+    marks: &mut [u8],
+) -> Placed
     requires { ⌜ MayFind n (now xs) (now ys) (now marks) ⌝ }
     ensures answer { λ r. ⌜ r ≡ placedAs (answerOf (sitesOf n (now (xs .entry)) (now (ys .entry)))) ⌝ }
     ensures kept { λ r. ⌜ Kept n (now (marks .entry)) (now (marks .exit)) ⌝ }

@@ -4,6 +4,7 @@
 // on by value costs more than all the tests.
 use crate::geometry::meet;
 use crate::units::HalfUnits;
+use crate::units::Limits;
 use crate::units::Place;
 use crate::units::Units;
 ghost use mathlib.Core.Path.{_≡_};
@@ -23,8 +24,8 @@ pub(crate) enum Left {
 
 // Which corners are open and which is decided, for every site.
 pub(crate) struct State {
-    pub ways: [u8; 960],
-    pub decided: [u8; 240],
+    pub ways: [u8; Limits::WAYS],
+    pub decided: [u8; Limits::SITES],
 }
 
 // A state, and whether it was reached.
@@ -71,7 +72,12 @@ fn left_of(a: u8, b: u8, c: u8, d: u8) -> Left
 }
 
 // Closes corner `c` of site `j`, and decides the site where one corner is left. No where none is.
-fn close_corner(ways: &mut [u8; 960], decided: &mut [u8; 240], j: usize, c: u8) -> bool
+fn close_corner(
+    ways: &mut [u8; Limits::WAYS],
+    decided: &mut [u8; Limits::SITES],
+    j: usize,
+    c: u8,
+) -> bool
     requires { ⌜ Sizes (now ways) (now decided) × (j < 240) × Corner c ⌝ }
     ensures { λ r. ⌜ ClosedCorner (now (ways .entry)) (now (decided .entry)) j c r (now (ways .exit)) (now (decided .exit)) ⌝ }
 {
@@ -91,11 +97,11 @@ fn close_corner(ways: &mut [u8; 960], decided: &mut [u8; 240], j: usize, c: u8) 
 
 // Carries the decision `c` of site `k` to site `j`: only its corner `c` can meet an uncrowded label at corner `c`.
 fn carry_to(
-    xs: &[u32; 240],
-    ys: &[u32; 240],
+    xs: &[u32; Limits::SITES],
+    ys: &[u32; Limits::SITES],
     side: HalfUnits,
-    ways: &mut [u8; 960],
-    decided: &mut [u8; 240],
+    ways: &mut [u8; Limits::WAYS],
+    decided: &mut [u8; Limits::SITES],
     k: usize,
     c: u8,
     j: usize,
@@ -123,12 +129,12 @@ fn carry_to(
 
 // Carries the decision of site `k` to all others. No where one is left with no corner.
 fn carry_out(
-    xs: &[u32; 240],
-    ys: &[u32; 240],
+    xs: &[u32; Limits::SITES],
+    ys: &[u32; Limits::SITES],
     n: usize,
     side: HalfUnits,
-    ways: &mut [u8; 960],
-    decided: &mut [u8; 240],
+    ways: &mut [u8; Limits::WAYS],
+    decided: &mut [u8; Limits::SITES],
     k: usize,
 ) -> bool
     requires { ⌜ MayCarryOut n (now xs) (now ys) side (now ways) (now decided) k ⌝ }
@@ -147,7 +153,7 @@ fn carry_out(
 }
 
 // The first decided site that is not marked, or `n`.
-fn first_waiting(decided: &[u8; 240], marks: &[u8], n: usize) -> usize
+fn first_waiting(decided: &[u8; Limits::SITES], marks: &[u8], n: usize) -> usize
     requires { ⌜ (length (now decided) ≡ 240) × (n ≤ 240) × (n ≤ length (now marks)) ⌝ }
     ensures { λ r. ⌜ FirstWaiting (now (decided .entry)) (now (marks .entry)) n r ⌝ }
 {
@@ -165,12 +171,12 @@ fn first_waiting(decided: &[u8; 240], marks: &[u8], n: usize) -> usize
 
 // Carries out every decision that is not marked, and marks it. No where a site is left with no corner.
 fn carry_on(
-    xs: &[u32; 240],
-    ys: &[u32; 240],
+    xs: &[u32; Limits::SITES],
+    ys: &[u32; Limits::SITES],
     n: usize,
     side: HalfUnits,
-    ways: &mut [u8; 960],
-    decided: &mut [u8; 240],
+    ways: &mut [u8; Limits::WAYS],
+    decided: &mut [u8; Limits::SITES],
     marks: &mut [u8],
 ) -> bool
     requires { ⌜ MayCarryOn n (now xs) (now ys) side (now ways) (now decided) (now marks) ⌝ }
@@ -191,7 +197,7 @@ fn carry_on(
 }
 
 // Marks the decided sites.
-fn mark(decided: &[u8; 240], marks: &mut [u8], n: usize)
+fn mark(decided: &[u8; Limits::SITES], marks: &mut [u8], n: usize)
     requires { ⌜ (length (now decided) ≡ 240) × (n ≤ 240) × (n ≤ length (now marks)) ⌝ }
     ensures marked { λ r. ⌜ Marked (now (decided .entry)) n (now (marks .exit)) ⌝ }
     ensures kept { λ r. ⌜ Kept n (now (marks .entry)) (now (marks .exit)) ⌝ }
@@ -206,7 +212,7 @@ fn mark(decided: &[u8; 240], marks: &mut [u8], n: usize)
 }
 
 // Decides corner `c` of site `i`, which closes the site's other corners.
-fn take_corner(ways: &mut [u8; 960], decided: &mut [u8; 240], i: usize, c: u8)
+fn take_corner(ways: &mut [u8; Limits::WAYS], decided: &mut [u8; Limits::SITES], i: usize, c: u8)
     requires { ⌜ Sizes (now ways) (now decided) × (i < 240) × Corner c ⌝ }
     ensures { λ r. ⌜ TakenCorner (now (ways .entry)) (now (decided .entry)) i c (now (ways .exit)) (now (decided .exit)) ⌝ }
 {
@@ -222,8 +228,8 @@ fn take_corner(ways: &mut [u8; 960], decided: &mut [u8; 240], i: usize, c: u8)
 
 // Tries corner `c` of site `i` on a copy of the state.
 pub(crate) fn try_corner(
-    xs: &[u32; 240],
-    ys: &[u32; 240],
+    xs: &[u32; Limits::SITES],
+    ys: &[u32; Limits::SITES],
     n: usize,
     side: HalfUnits,
     state: State,

@@ -27,6 +27,8 @@ pub struct Limits();
 impl Limits {
     // The most sites of a plan.
     pub const SITES: usize = 240;
+    // A byte for each corner of each site.
+    pub const WAYS: usize = 4 * Limits::SITES;
     // The greatest coordinate, in units.
     pub const COORDINATE: u32 = 10_000;
     // The least and the greatest side, in half units.

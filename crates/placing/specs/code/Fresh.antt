@@ -1,4 +1,4 @@
--- The bytes of a state before anything is decided: which corners the numbers of specs/Crowding open at a side.
+-- The bytes of a state before anything is decided: which corners the numbers of specs/code/Crowding open at a side.
 -- Assumes nothing.
 use mathlib.Core.Path.{_≡_, refl, _∙_}
 use mathlib.Core.List.{List}

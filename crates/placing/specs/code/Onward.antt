@@ -1,5 +1,5 @@
--- A trial on the bytes of a state (specs/Ways): it takes a corner, then carries out one decision after another, with a table of
--- marks, until a site is left with no corner or no decision waits. The laws of specs/Trial do the work.
+-- A trial on the bytes of a state (specs/code/Ways): it takes a corner, then carries out one decision after another, with a table of
+-- marks, until a site is left with no corner or no decision waits. The laws of specs/search/Trial do the work.
 -- Assumes nothing.
 use mathlib.Core.Path.{_≡_, sym, ap}
 use mathlib.Core.Bool.{Bool, true, false, true≢false}

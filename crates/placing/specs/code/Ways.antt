@@ -1,5 +1,5 @@
 -- The state of a search as a trial holds it: 960 bytes, four for each site, 1 where the corner is open, and 240 bytes with the
--- decided corners, 0 for none. What one step of the code does to them, for the laws of specs/Trial and specs/Walk to use.
+-- decided corners, 0 for none. What one step of the code does to them, for the laws of specs/search/Trial and specs/search/Walk to use.
 -- Assumes nothing.
 use mathlib.Core.Path.{_≡_, refl, ap, _∙_, fun-ext}
 use mathlib.Core.Bool.{Bool, true, false}

@@ -1,4 +1,4 @@
--- `placing::choice::walk` meets its contract: the walk has come to site i, by the laws of `specs/Walk`.
+-- `placing::choice::walk` meets its contract: the walk has come to site i, by the laws of `specs/search/Walk`.
 -- Assumes nothing.
 use Prim.Native.Nat.{_≤_, _-_}
 use mathlib.Core.Logic.{⊎-elim}

@@ -1,4 +1,4 @@
--- `trial::take_corner` meets its contract: what its writes make of the bytes is a law of specs/Carry.
+-- `trial::take_corner` meets its contract: what its writes make of the bytes is a law of specs/code/Carry.
 -- Assumes nothing.
 use Rattle.placing.specs.code.Carry.{taken-corner}
 use borrow.Author.Needs.{needs}

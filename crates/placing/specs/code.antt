@@ -1,5 +1,4 @@
 -- What the functions ask and promise, in terms of the arrays that they hold.
-pub mod Decides
 pub mod Sites
 pub mod Crowding
 pub mod Ways

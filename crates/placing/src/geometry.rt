@@ -7,7 +7,7 @@ use crate::units::Place;
 use crate::units::Units;
 ghost use Prim.Native.Nat.{_≤_};
 ghost use Rattle.placing.specs.rules.Units.{OnAxis, OnPlan, Judged};
-ghost use Rattle.placing.specs.code.Decides.{Decides};
+ghost use Rattle.placing.specs.rules.Decides.{Decides};
 ghost use Rattle.placing.specs.rules.Corner.{Corner};
 ghost use Rattle.placing.specs.rules.Meet.{Overlap, Meet};
 ghost use Rattle.placing.specs.rules.Crowd.{Ahead, DoubledCovers};

@@ -1,4 +1,4 @@
--- DESIGN section 4, T8: the greatest side, between one that has a good choice and one that has none.
+-- The greatest side, between one that has a good choice and one that has none.
 -- Assumes nothing.
 use mathlib.Core.Path.{_≡_, refl, sym, ap, _∙_, subst}
 use mathlib.Core.Bool.{Bool, true, false}

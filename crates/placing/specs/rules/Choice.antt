@@ -31,6 +31,15 @@ pub record Good (h : ℕ) (ps : List Place) (cs : List ℕ) : Type 0 where
   pub apart : (i j : ℕ) → i < length ps → j < length ps → i ≢ j
       → Meet h 1 (siteAt ps i) (cornerAt cs i) (siteAt ps j) (cornerAt cs j) → ⊥
 
+-- "The labels of some two of these lines meet", at the side p/q.
+pub record MeetingPair (p q : ℕ) (ps : List Place) (cs : List ℕ) : Type 0 where
+  pub first : ℕ
+  pub second : ℕ
+  pub first-listed : first < length ps
+  pub second-listed : second < length ps
+  pub different : first ≢ second
+  pub meet : Meet p q (siteAt ps first) (cornerAt cs first) (siteAt ps second) (cornerAt cs second)
+
 -- The first list of corners comes before the second: it has the lower corner at the first site where they differ.
 pub data Before : List ℕ → List ℕ → Type 0 where
   lower : {c e : ℕ} {cs es : List ℕ} → c < e → Before (c ∷ cs) (e ∷ es)

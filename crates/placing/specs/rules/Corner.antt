@@ -12,6 +12,7 @@ pub record Corner (c : ℕ) : Type 0 where
   pub least : 1 ≤ c
   pub most : c ≤ 4
 
+-- Up where a test says so, else down.
 abbrev pub upWhere : Bool → Direction
 upWhere true = Up
 upWhere false = Down
@@ -24,6 +25,7 @@ alongX c = upWhere (eqb c 1 || eqb c 4)
 abbrev pub alongY : ℕ → Direction
 alongY c = upWhere (eqb c 1 || eqb c 2)
 
+-- The other direction.
 abbrev pub opposite : Direction → Direction
 opposite Up = Down
 opposite Down = Up

@@ -19,6 +19,7 @@ pub record Fraction : Type 0 where
   pub parts : ℕ
   pub some-parts : 1 ≤ parts
 
+-- A point of the plan or beside it.
 pub record Point : Type 0 where
   pub x : Fraction
   pub y : Fraction

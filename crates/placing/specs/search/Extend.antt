@@ -1,4 +1,4 @@
--- DESIGN section 4, T5: where a state is closed and any solution exists, one exists that follows the state.
+-- Where a state is closed and any solution exists, one exists that follows the state.
 -- Assumes nothing.
 use mathlib.Core.Path.{_≡_, refl, sym}
 use mathlib.Core.Logic.{_≢_, _⊎_, inl, inr}

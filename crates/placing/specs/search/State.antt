@@ -1,5 +1,5 @@
 -- The state of a search for a solution: for each site the open corners (op i c is 1) and the decided corner (dec i, 0 for
--- none). DESIGN section 4, T5 and T6.
+-- none).
 -- Assumes nothing.
 use mathlib.Core.Path.{_≡_}
 use mathlib.Core.Logic.{_≢_, _⊎_}

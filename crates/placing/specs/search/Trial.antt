@@ -1,4 +1,4 @@
--- DESIGN section 4, T6: a trial decides one open corner in a closed state and carries decisions out, one site at a time. It ends
+-- A trial decides one open corner in a closed state and carries decisions out, one site at a time. It ends
 -- stuck, which refuses the corner, or with every decision carried out, in a closed state.
 -- Assumes nothing.
 use mathlib.Core.Path.{_≡_, sym, _∙_, ap}

@@ -1,4 +1,4 @@
--- DESIGN section 4, T7: the walk in list order. Each undecided site takes the lowest corner that is not refused; at the end the
+-- The walk in list order. Each undecided site takes the lowest corner that is not refused; at the end the
 -- decisions are a solution and none comes before it.
 -- Assumes nothing.
 use mathlib.Core.Path.{_≡_, refl, sym, _∙_, ap}

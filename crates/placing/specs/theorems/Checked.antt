@@ -13,7 +13,7 @@ use Rattle.placing.specs.declared.units.Place.{Place}
 use Rattle.placing.specs.declared.units.Side.{Side}
 use Rattle.placing.specs.declared.units.Side.the-variants.{Number, Free}
 use Rattle.placing.specs.rules.Units.{siteAt, Distinct, greatestSide, freeSide}
-use Rattle.placing.specs.code.Decides.{Decides, decides-same, decides-no, decides-yes}
+use Rattle.placing.specs.rules.Decides.{Decides, decides-same, decides-no, decides-yes}
 use Rattle.placing.specs.theorems.Decide.{
   le-decides,
   eq-decides,

@@ -13,7 +13,7 @@ use borrow.Author.Tests.{leb-true, leb-false, eqb-true, eqb-false}
 use Rattle.placing.specs.declared.units.Place.{Place}
 use Rattle.placing.specs.declared.corner.Direction.{Direction}
 use Rattle.placing.specs.declared.corner.Direction.the-variants.{Up, Down}
-use Rattle.placing.specs.code.Decides.{Decides, decides-same, decides-second, decides-no, decides-yes, decided}
+use Rattle.placing.specs.rules.Decides.{Decides, decides-same, decides-second, decides-no, decides-yes, decided}
 use Rattle.placing.specs.rules.Units.{dist, xOf, yOf, siteAt, Same}
 use Rattle.placing.specs.rules.Corner.{Corner, alongX, alongY}
 use Rattle.placing.specs.rules.Meet.{Overlap, Meet}

@@ -16,7 +16,7 @@ use Rattle.placing.specs.rules.Units.{siteAt}
 use Rattle.placing.specs.rules.Meet.{Meet, meet-symmetric}
 use Rattle.placing.specs.rules.Crowd.{Crowded}
 use Rattle.placing.specs.rules.Choice.{cornerAt, Corners, Good}
-use Rattle.placing.specs.code.Decides.{Decides, decides-same}
+use Rattle.placing.specs.rules.Decides.{Decides, decides-same}
 use Rattle.placing.specs.theorems.Decide.{
   both-decide,
   not-decides,

@@ -1,5 +1,5 @@
 -- Document 01, "What demand 3 counts": above twice the answer's side every choice of corners has two labels that meet, at whole
--- sides and at fractions. DESIGN section 4, T4.
+-- sides and at fractions.
 -- Assumes nothing.
 use mathlib.Core.Path.{sym}
 use mathlib.Core.Bool.{Bool}
@@ -16,19 +16,10 @@ use Rattle.placing.specs.rules.Units.{dist, siteAt, xOf, yOf}
 use Rattle.placing.specs.rules.Corner.{alongX, alongY}
 use Rattle.placing.specs.rules.Meet.{Overlap, Meet, meet-larger}
 use Rattle.placing.specs.rules.Crowd.{Ahead, DoubledCovers}
-use Rattle.placing.specs.rules.Choice.{cornerAt, Corners, Good}
-use Rattle.placing.specs.code.Decides.{Decides, decides-same, decided}
+use Rattle.placing.specs.rules.Choice.{cornerAt, Corners, Good, MeetingPair}
+use Rattle.placing.specs.rules.Decides.{Decides, decides-same, decided}
 use Rattle.placing.specs.theorems.Decide.{someBelow, some-decides, pairTest, pair-decides}
 use Rattle.placing.specs.rules.Answer.{numbered, IsAnswer, is-number}
-
--- The labels of some two sites meet at the side p/q.
-pub record MeetingPair (p q : ℕ) (ps : List Place) (cs : List ℕ) : Type 0 where
-  pub first : ℕ
-  pub second : ℕ
-  pub first-listed : first < length ps
-  pub second-listed : second < length ps
-  pub different : first ≢ second
-  pub meet : Meet p q (siteAt ps first) (cornerAt cs first) (siteAt ps second) (cornerAt cs second)
 
 -- Whether two labels meet is decided, by trying all pairs.
 abbrev pub meetingTest : (p q : ℕ) → List Place → List ℕ → Bool

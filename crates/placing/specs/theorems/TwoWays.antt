@@ -1,5 +1,5 @@
 -- Document 01: "at one h, of a site's corners that are not crowded, at most two have a label that meets the label of another
--- site's corner that is not crowded." DESIGN section 4, T2 and T3.
+-- site's corner that is not crowded."
 -- Assumes nothing.
 use mathlib.Core.Path.{_≡_, refl, sym, _∙_, ap₂}
 use mathlib.Core.Bool.{Bool, _&&_, _||_}

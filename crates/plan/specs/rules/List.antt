@@ -63,10 +63,11 @@ readLines (suc k) sites text = readOn (readLines k) sites text
 unfoldable pub readList : List ℕ → Sites
 readList text = readLines (length text) [] text
 
--- The list of some sites as text: name, x, y.
+-- The line of a site in a list, without its line feed: "name, x, y, parted by one tab each".
 unfoldable pub listLine : Site → List ℕ
 listLine site = site .name ++ (tab ∷ decimal (xOf (site .place))) ++ (tab ∷ decimal (yOf (site .place)))
 
+-- The list of some sites: "one site a line", "each line ended by a line feed".
 unfoldable pub listText : List Site → List ℕ
 listText [] = []
 listText (site ∷ sites) = listLine site ++ (lineFeed ∷ listText sites)

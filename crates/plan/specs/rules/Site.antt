@@ -10,7 +10,7 @@ use native.Mathlib.Omega.{arith}
 use lib.ListN.{length, getD, List·getD-map, length-map, length-append}
 use lib.Seq.{getD-append-seam}
 use Rattle.placing.specs.declared.units.Place.{Place}
-use Rattle.placing.specs.code.Decides.{Decides}
+use Rattle.placing.specs.rules.Decides.{Decides}
 use Rattle.placing.specs.theorems.Decide.{samePlace, same-decides}
 use Rattle.placing.specs.rules.Units.{mostSites, greatestCoordinate, nowhere, xOf, yOf, siteAt, Same, Distinct, InRange}
 use Rattle.plan.specs.rules.Name.{isName, sameBytes, same-bytes-same, same-bytes-refl}
@@ -20,6 +20,7 @@ pub record Site : Type 0 where
   pub name : List ℕ
   pub place : Place
 
+-- Its two parts, as functions.
 abbrev pub placeOf : Site → Place
 placeOf site = site .place
 

@@ -12,6 +12,7 @@ use lib.Dec.{eqb}
 use lib.ListN.{length}
 use borrow.Author.Tests.{eqb-true, eqb-false, ne-eqb}
 
+-- "parted by one tab each", "ended by a line feed (byte 10, decimal)".
 abbrev pub tab : ℕ
 tab = 9
 

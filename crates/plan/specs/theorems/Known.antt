@@ -16,7 +16,8 @@ use Rattle.placing.specs.declared.units.Place.{Place}
 use Rattle.placing.specs.rules.Units.{mostSites}
 use Rattle.placing.specs.theorems.Decide.{eq-decides, both-decide, not-decides}
 use Rattle.placing.specs.rules.Answer.{Answer, answerOf, numbered, unbounded}
-use Rattle.placing.specs.theorems.Twice.{MeetingPair, meeting-decides, meeting-larger}
+use Rattle.placing.specs.rules.Choice.{MeetingPair}
+use Rattle.placing.specs.theorems.Twice.{meeting-decides, meeting-larger}
 use Rattle.placing.specs.theorems.Checked.{checkedTest, checked-right, passed, both-passed}
 use Rattle.plan.specs.declared.refusal.Outcome.the-variants.{Done, Refused}
 use Rattle.plan.specs.declared.refusal.Outcome.{Outcome}

@@ -11,9 +11,9 @@ use Rattle.placing.specs.declared.units.Place.{Place}
 use Rattle.placing.specs.declared.units.Side.{Side}
 use Rattle.placing.specs.declared.units.Side.the-variants.{Number, Free}
 use Rattle.placing.specs.rules.Units.{xOf, yOf}
-use Rattle.placing.specs.rules.Choice.{Corners}
+use Rattle.placing.specs.rules.Choice.{Corners, MeetingPair}
 use Rattle.placing.specs.rules.Answer.{Answer, answerOf, IsAnswer, is-free, is-number, answer-is}
-use Rattle.placing.specs.theorems.Twice.{MeetingPair, answer-twice}
+use Rattle.placing.specs.theorems.Twice.{answer-twice}
 use Rattle.plan.specs.declared.refusal.Refusal.{Refusal}
 use Rattle.plan.specs.rules.Refusal.{numberOf}
 use Rattle.plan.specs.rules.Text.{tab, lineFeed, fieldsOf, Without, without-append, lines-more, fields-one, fields-more}

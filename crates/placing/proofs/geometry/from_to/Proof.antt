@@ -2,7 +2,7 @@
 -- Assumes nothing.
 use native.Mathlib.Omega.{arith}
 use borrow.Author.Tests.{ltb-true, ltb-false}
-use Rattle.placing.specs.code.Decides.{decides-no}
+use Rattle.placing.specs.rules.Decides.{decides-no}
 use borrow.Author.Needs.{needs}
 use Rattle.placing.proofs.geometry.from_to.Statement.{statement}
 use Rattle.placing.proofs.geometry.from_to.Tie as tie

@@ -1,6 +1,6 @@
 -- `placing::geometry::meet` meets its contract: along x, and where that holds along y.
 -- Assumes nothing.
-use Rattle.placing.specs.code.Decides.{decides-second, decides-no}
+use Rattle.placing.specs.rules.Decides.{decides-second, decides-no}
 use borrow.Author.Needs.{needs}
 use Rattle.placing.proofs.geometry.meet.Statement.{statement}
 use Rattle.placing.proofs.geometry.meet.Tie as tie

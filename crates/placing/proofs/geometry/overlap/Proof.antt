@@ -1,7 +1,7 @@
 -- `placing::geometry::overlap` meets its contract: labels that face each other overlap where one lies ahead of the other.
 -- Assumes nothing.
 use native.Mathlib.Omega.{arith}
-use Rattle.placing.specs.code.Decides.{decides-same}
+use Rattle.placing.specs.rules.Decides.{decides-same}
 use borrow.Author.Needs.{needs}
 use Rattle.placing.proofs.geometry.overlap.Statement.{statement}
 use Rattle.placing.proofs.geometry.overlap.Tie as tie

@@ -1,4 +1,5 @@
-// From which side on each corner is crowded. This does not depend on the side that is tried, so it is found once for a list.
+// How far each corner reaches before it is crowded. This does not depend on the side that is tried, so it is found once for a
+// list.
 use crate::geometry::doubled_covers;
 use crate::units::HalfUnits;
 use crate::units::Limits;
@@ -8,95 +9,123 @@ ghost use mathlib.Core.Path.{_≡_};
 ghost use Prim.Native.Nat.{_<_, max};
 ghost use Rattle.placing.specs.rules.Units.{OnPlan, dist};
 ghost use Rattle.placing.specs.rules.Corner.{Corner};
-ghost use Rattle.placing.specs.code.Sites.{Held, sitesOf};
-ghost use Rattle.placing.specs.code.Crowding.{apart, Lowered, Nearer, SiteCrowding, CrowdingIs, judgedFree};
+ghost use Rattle.placing.specs.code.Sites.{Held, HasPlace, placeAt, sitesOf};
+ghost use Rattle.placing.specs.code.Crowding.{apart, Lowered, Nearer, Passed, SiteReaches, CrowdingIs, judgedFree};
 
-// For each corner, a number for each site: at the sides above it the corner is crowded.
+// The reaches of the four corners of a site: a doubled label covers another site where its side is above the corner's reach.
+pub(crate) struct Reaches {
+    pub first: HalfUnits,
+    pub second: HalfUnits,
+    pub third: HalfUnits,
+    pub fourth: HalfUnits,
+}
+
+// For each corner, its reach at each site.
 pub(crate) struct Crowding {
-    pub first: [u32; Limits::SITES],
-    pub second: [u32; Limits::SITES],
-    pub third: [u32; Limits::SITES],
-    pub fourth: [u32; Limits::SITES],
+    pub first: [HalfUnits; Limits::SITES],
+    pub second: [HalfUnits; Limits::SITES],
+    pub third: [HalfUnits; Limits::SITES],
+    pub fourth: [HalfUnits; Limits::SITES],
 }
 
-// The numbers of one site.
-pub(crate) struct Above {
-    pub first: u32,
-    pub second: u32,
-    pub third: u32,
-    pub fourth: u32,
-}
-
-fn distance(a: Units, b: Units) -> u32
-    ensures { λ r. ⌜ r ≡ dist (a .0) (b .0) ⌝ }
+fn distance(a: Units, b: Units) -> Units
+    ensures { λ r. ⌜ r .0 ≡ dist (a .0) (b .0) ⌝ }
 {
-    if a.0 <= b.0 { b.0 - a.0 } else { a.0 - b.0 }
+    if a.0 <= b.0 {
+        Units(b.0 - a.0)
+    } else {
+        Units(a.0 - b.0)
+    }
 }
 
-fn larger(a: u32, b: u32) -> u32
-    ensures { λ r. ⌜ r ≡ max a b ⌝ }
+fn larger(a: Units, b: Units) -> Units
+    ensures { λ r. ⌜ r .0 ≡ max (a .0) (b .0) ⌝ }
 {
-    if a <= b { b } else { a }
+    if a.0 <= b.0 { b } else { a }
 }
 
-// The number of corner `c` of `s`, `above` so far, with one other site more: `t`, which lies `away` from `s`. The distance is
+// How far apart two places are: the larger of their distances along the axes.
+fn apart(s: Place, t: Place) -> HalfUnits
+    requires { ⌜ OnPlan s × OnPlan t ⌝ }
+    ensures { λ r. ⌜ r .0 ≡ apart s t ⌝ }
+{
+    larger(distance(s.x, t.x), distance(s.y, t.y)).in_half_units()
+}
+
+// The reach of corner `c` of `s`, `reach` so far, with one other site more: `t`, which lies `away` from `s`. The distance is
 // asked first: most sites lie too far away to count.
-fn lowered(above: u32, away: u32, s: Place, c: u8, t: Place) -> u32
-    requires { ⌜ OnPlan s × OnPlan t × Corner c × (away ≡ apart s t) ⌝ }
-    ensures { λ r. ⌜ Lowered s c t above r ⌝ }
+fn lowered(reach: HalfUnits, away: HalfUnits, s: Place, c: u8, t: Place) -> HalfUnits
+    requires { ⌜ OnPlan s × OnPlan t × Corner c × (away .0 ≡ apart s t) ⌝ }
+    ensures { λ r. ⌜ Lowered s c t (reach .0) (r .0) ⌝ }
 {
-    if above <= away {
-        return above;
+    if reach.0 <= away.0 {
+        return reach;
     }
     if doubled_covers(HalfUnits(Limits::FREE_SIDE), s, c, t) {
         away
     } else {
-        above
+        reach
     }
 }
 
-// The numbers of a site at `s`, `above` so far, with one other site more: `t`.
-fn nearer(above: Above, s: Place, t: Place) -> Above
+// The reaches of a site at `s`, `reaches` so far, with one other site more: `t`.
+fn nearer(reaches: Reaches, s: Place, t: Place) -> Reaches
     requires { ⌜ OnPlan s × OnPlan t ⌝ }
-    ensures { λ r. ⌜ Nearer s t above r ⌝ }
+    ensures { λ r. ⌜ Nearer s t reaches r ⌝ }
 {
-    let away = larger(distance(s.x, t.x), distance(s.y, t.y));
-    Above {
-        first: lowered(above.first, away, s, 1, t),
-        second: lowered(above.second, away, s, 2, t),
-        third: lowered(above.third, away, s, 3, t),
-        fourth: lowered(above.fourth, away, s, 4, t),
+    let away = apart(s, t);
+    Reaches {
+        first: lowered(reaches.first, away, s, 1, t),
+        second: lowered(reaches.second, away, s, 2, t),
+        third: lowered(reaches.third, away, s, 3, t),
+        fourth: lowered(reaches.fourth, away, s, 4, t),
     }
 }
 
-// The numbers of site `i`.
-fn crowded_above(xs: &[u32; Limits::SITES], ys: &[u32; Limits::SITES], n: usize, i: usize) -> Above
-    requires { ⌜ Held n (now xs) (now ys) judgedFree × (i < n) ⌝ }
-    ensures { λ r. ⌜ SiteCrowding (sitesOf n (now (xs .entry)) (now (ys .entry))) i r ⌝ }
+// The place of site `i`.
+fn place_at(xs: &[u32; Limits::SITES], ys: &[u32; Limits::SITES], i: usize) -> Place
+    requires { ⌜ HasPlace (now xs) (now ys) i ⌝ }
+    ensures { λ r. ⌜ r ≡ placeAt (now (xs .entry)) (now (ys .entry)) i ⌝ }
 {
-    let s = Place {
+    Place {
         x: Units(xs[i]),
         y: Units(ys[i]),
-    };
-    let mut above = Above {
-        first: Limits::FREE_SIDE,
-        second: Limits::FREE_SIDE,
-        third: Limits::FREE_SIDE,
-        fourth: Limits::FREE_SIDE,
-    };
-    for j in 0..n {
-        if j != i {
-            let t = Place {
-                x: Units(xs[j]),
-                y: Units(ys[j]),
-            };
-            above = nearer(above, s, t);
-        }
     }
-    above
 }
 
-// The numbers of all sites.
+// The reaches of site `i`, which stands at `s`, `reaches` so far, with site `j` passed, which stands at `t`. A site does not
+// crowd itself.
+fn passed(reaches: Reaches, i: usize, s: Place, j: usize, t: Place) -> Reaches
+    requires { ⌜ OnPlan s × OnPlan t ⌝ }
+    ensures { λ r. ⌜ Passed i s j t reaches r ⌝ }
+{
+    if j == i {
+        return reaches;
+    }
+    nearer(reaches, s, t)
+}
+
+// The reaches of site `i`: over no other site they are the greatest doubled side, and each other site may lower them.
+fn reaches_of(xs: &[u32; Limits::SITES], ys: &[u32; Limits::SITES], n: usize, i: usize) -> Reaches
+    requires { ⌜ Held n (now xs) (now ys) judgedFree × (i < n) ⌝ }
+    ensures { λ r. ⌜ SiteReaches (sitesOf n (now (xs .entry)) (now (ys .entry))) i r ⌝ }
+{
+    let s = place_at(xs, ys, i);
+    let most = HalfUnits(Limits::FREE_SIDE).doubled();
+    let mut reaches = Reaches {
+        first: most,
+        second: most,
+        third: most,
+        fourth: most,
+    };
+    for j in 0..n {
+        reaches = passed(reaches, i, s, j, place_at(xs, ys, j));
+    }
+    reaches
+}
+
+// The reaches of all sites. They are written here and not by a function that the arrays are lent to, since the prover takes no
+// reference to an array of structs.
 pub(crate) fn crowding_of(
     xs: &[u32; Limits::SITES],
     ys: &[u32; Limits::SITES],
@@ -105,16 +134,21 @@ pub(crate) fn crowding_of(
     requires { ⌜ Held n (now xs) (now ys) judgedFree ⌝ }
     ensures { λ r. ⌜ CrowdingIs (sitesOf n (now (xs .entry)) (now (ys .entry))) n r ⌝ }
 {
-    let mut first = [0u32; Limits::SITES];
-    let mut second = [0u32; Limits::SITES];
-    let mut third = [0u32; Limits::SITES];
-    let mut fourth = [0u32; Limits::SITES];
+    let mut first = [HalfUnits(0); Limits::SITES];
+    let mut second = [HalfUnits(0); Limits::SITES];
+    let mut third = [HalfUnits(0); Limits::SITES];
+    let mut fourth = [HalfUnits(0); Limits::SITES];
     for i in 0..n {
-        let above = crowded_above(xs, ys, n, i);
-        first[i] = above.first;
-        second[i] = above.second;
-        third[i] = above.third;
-        fourth[i] = above.fourth;
+        let Reaches {
+            first: one,
+            second: two,
+            third: three,
+            fourth: four,
+        } = reaches_of(xs, ys, n, i);
+        first[i] = one;
+        second[i] = two;
+        third[i] = three;
+        fourth[i] = four;
     }
     Crowding {
         first,

@@ -4,29 +4,31 @@ use crate::trial::State;
 use crate::units::HalfUnits;
 use crate::units::Limits;
 ghost use mathlib.Core.Path.{_≡_};
-ghost use Prim.Native.Nat.{_≤_, _<_};
+ghost use Prim.Native.Nat.{_*_, _≤_, _<_};
 ghost use lib.ListN.{length};
+ghost use Rattle.placing.specs.rules.Units.{mostSites, Judged};
 ghost use Rattle.placing.specs.code.Fresh.{OpenByte, OpenedRow, FreshState};
 
-// The byte of a corner that is crowded at the sides above `above`: 1, for open, where `side` is not one of them.
-fn is_open(above: u32, side: HalfUnits) -> u8
-    ensures { λ r. ⌜ OpenByte above (side .0) r ⌝ }
+// The byte of a corner with this reach: 1, for open, where the doubled side is within it.
+fn is_open(reach: HalfUnits, side: HalfUnits) -> u8
+    requires { ⌜ Judged side ⌝ }
+    ensures { λ r. ⌜ OpenByte (reach .0) (side .0) r ⌝ }
 {
-    if side.0 <= above { 1 } else { 0 }
+    if side.doubled().0 <= reach.0 { 1 } else { 0 }
 }
 
-// Writes the four bytes of site `i`, by the numbers of its four corners.
+// Writes the four bytes of site `i`, by the reaches of its four corners.
 fn open_row(
     ways: &mut [u8; Limits::WAYS],
-    first: u32,
-    second: u32,
-    third: u32,
-    fourth: u32,
+    first: HalfUnits,
+    second: HalfUnits,
+    third: HalfUnits,
+    fourth: HalfUnits,
     side: HalfUnits,
     i: usize,
 )
-    requires { ⌜ (length (now ways) ≡ 960) × (i < 240) ⌝ }
-    ensures { λ r. ⌜ OpenedRow (now (ways .entry)) first second third fourth (side .0) i (now (ways .exit)) ⌝ }
+    requires { ⌜ (length (now ways) ≡ 4 * mostSites) × (i < mostSites) × Judged side ⌝ }
+    ensures { λ r. ⌜ OpenedRow (now (ways .entry)) (first .0) (second .0) (third .0) (fourth .0) (side .0) i (now (ways .exit)) ⌝ }
 {
     let at = 4 * i;
     ways[at] = is_open(first, side);
@@ -37,7 +39,7 @@ fn open_row(
 
 // The state at a side, before anything is decided.
 pub(crate) fn fresh_state(crowding: Crowding, n: usize, side: HalfUnits) -> State
-    requires { ⌜ n ≤ 240 ⌝ }
+    requires { ⌜ (n ≤ mostSites) × Judged side ⌝ }
     ensures { λ r. ⌜ FreshState crowding n side (r .ways) (r .decided) ⌝ }
 {
     let first = crowding.first;

@@ -25,14 +25,13 @@ fn same_way(side: HalfUnits, a: Units, b: Units) -> bool
     }
 }
 
-// Measured from `from`, `to` lies at 0 or more and below `side` units: half units of both are compared, and a doubled side is
-// twice the half units of a side.
+// Measured from `from`, `to` lies at 0 or more and nearer than the doubled side.
 fn from_to(side: HalfUnits, from: Units, to: Units) -> bool
     requires { ⌜ OnAxis from × OnAxis to × Judged side ⌝ }
     ensures { λ r. ⌜ Decides r (Ahead (side .0) Up (from .0) (to .0)) ⌝ }
 {
     if from.0 <= to.0 {
-        Units(to.0 - from.0).in_half_units().0 < 2 * side.0
+        Units(to.0 - from.0).in_half_units().0 < side.doubled().0
     } else {
         false
     }
@@ -73,7 +72,7 @@ pub(crate) fn meet(side: HalfUnits, s: Place, c: u8, t: Place, e: u8) -> bool
     }
 }
 
-// Along one axis, `to` lies ahead of `from` in direction `d`, below `side` units.
+// Along one axis, `to` lies ahead of `from` in direction `d`, nearer than the doubled side.
 pub(crate) fn ahead(side: HalfUnits, d: Direction, from: Units, to: Units) -> bool
     requires { ⌜ OnAxis from × OnAxis to × Judged side ⌝ }
     ensures { λ r. ⌜ Decides r (Ahead (side .0) d (from .0) (to .0)) ⌝ }

@@ -7,6 +7,7 @@ ghost use mathlib.Core.Path.{_≡_};
 ghost use mathlib.Core.List.{_++_};
 ghost use Prim.Native.Nat.{_*_, _≤_};
 ghost use lib.ListN.{length, take, drop, replicate};
+ghost use Rattle.placing.specs.rules.Units.{mostSites};
 ghost use Rattle.placing.specs.rules.Answer.{answerOf};
 ghost use Rattle.placing.specs.code.Placed.{placedAs, MayPlace, CoordinatesOf};
 
@@ -17,7 +18,7 @@ pub(crate) struct Coordinates {
 }
 
 fn coordinates_of(sites: [Place; Limits::SITES], n: usize) -> Coordinates
-    requires { ⌜ n ≤ 240 ⌝ }
+    requires { ⌜ n ≤ mostSites ⌝ }
     ensures { λ r. ⌜ CoordinatesOf n sites (r .xs) (r .ys) ⌝ }
 {
     let mut xs = [0u32; Limits::SITES];

@@ -1,7 +1,7 @@
 // Coordinates in units, sides in half units, and the one conversion between them.
 ghost use mathlib.Core.Path.{_≡_};
 ghost use Prim.Native.Nat.{_≤_};
-ghost use Rattle.placing.specs.rules.Units.{halves};
+ghost use Rattle.placing.specs.rules.Units.{halves, doubled, greatestCoordinate, Judged};
 
 // A coordinate, or a distance between two, in units.
 pub struct Units(pub u32);
@@ -42,9 +42,19 @@ impl Limits {
 impl Units {
     // The one conversion: a unit is two half units.
     pub fn in_half_units(self) -> HalfUnits
-        requires { ⌜ self .0 ≤ 10000 ⌝ }
+        requires { ⌜ self .0 ≤ greatestCoordinate ⌝ }
         ensures { λ r. ⌜ r .0 ≡ halves (self .0) ⌝ }
     {
         HalfUnits(2 * self.0)
+    }
+}
+
+impl HalfUnits {
+    // Twice a side: the side of the doubled label, and how far two labels that face each other reach together.
+    pub(crate) fn doubled(self) -> HalfUnits
+        requires { ⌜ Judged self ⌝ }
+        ensures { λ r. ⌜ r .0 ≡ doubled (self .0) ⌝ }
+    {
+        HalfUnits(self.0 + self.0)
     }
 }

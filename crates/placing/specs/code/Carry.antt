@@ -11,7 +11,7 @@ use lib.ListN.{length, getD, set, length-set}
 use lib.Seq.{getD-set-same, getD-set-other}
 use Rattle.placing.specs.declared.units.HalfUnits.{HalfUnits}
 use Rattle.placing.specs.rules.Corner.{Corner}
-use Rattle.placing.specs.rules.Units.{OnPlan}
+use Rattle.placing.specs.rules.Units.{mostSites, OnPlan}
 use Rattle.placing.specs.rules.Meet.{Meet}
 use Rattle.placing.specs.code.Sites.{placeAt}
 use Rattle.placing.specs.rules.Choice.{cornerAt}
@@ -98,7 +98,7 @@ cleared-elsewhere ways i j different =
     ∙ row-elsewhere ways i (4 * i) 0 j (omega arith) (omega arith) different
 
 -- Clearing a site and writing one corner takes that corner.
-pub taken-corner : (ways decided : List ℕ) (i c : ℕ) → Sizes ways decided → i < 240 → Corner c
+pub taken-corner : (ways decided : List ℕ) (i c : ℕ) → Sizes ways decided → i < mostSites → Corner c
     → TakenCorner ways decided i c (written (cleared ways i) i c 1) (set decided i c)
 taken-corner ways decided i c sizes listed corner =
     record {
@@ -118,9 +118,9 @@ taken-corner ways decided i c sizes listed corner =
         from (yes p) = p
         from (no d) = omega (arith, row-kept (cleared ways i) i c 1 e corner d, row-cleared ways i e)
 
-module _ (ways decided : List ℕ) (j c : ℕ) (sizes : Sizes ways decided) (listed : j < 240) (corner : Corner c) where
+module _ (ways decided : List ℕ) (j c : ℕ) (sizes : Sizes ways decided) (listed : j < mostSites) (corner : Corner c) where
   -- Closing a corner, whatever is left of the site and decided for it.
-  closed-corner : (ok : Bool) (decided′ : List ℕ) → length decided′ ≡ 240
+  closed-corner : (ok : Bool) (decided′ : List ℕ) → length decided′ ≡ mostSites
       → ((i : ℕ) → i ≢ j → cornerAt decided′ i ≡ cornerAt decided i)
       → (ok ≡ false → NoneOpen (rowOf (written ways j c 0) j))
       → (ok ≡ true

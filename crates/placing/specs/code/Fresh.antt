@@ -1,4 +1,4 @@
--- The bytes of a state before anything is decided: which corners the numbers of specs/code/Crowding open at a side.
+-- The bytes of a state before anything is decided: which corners are open at a side, by their reaches.
 -- Assumes nothing.
 use mathlib.Core.Path.{_≡_, refl, _∙_}
 use mathlib.Core.List.{List}
@@ -9,35 +9,36 @@ use native.Mathlib.Omega.{arith}
 use lib.ListN.{length, length-set, getD, set, replicate, getD-replicate}
 use lib.Seq.{getD-set-same, getD-set-other}
 use Rattle.placing.specs.declared.crowding.Crowding.{Crowding}
+use Rattle.placing.specs.declared.crowding.Reaches.{Reaches}
 use Rattle.placing.specs.declared.units.HalfUnits.{HalfUnits}
 use Rattle.placing.specs.declared.units.Place.{Place}
-use Rattle.placing.specs.rules.Units.{freeSide}
+use Rattle.placing.specs.rules.Units.{mostSites, freeSide, doubled}
 use Rattle.placing.specs.rules.Corner.{Corner}
 use Rattle.placing.specs.rules.Crowd.{Crowded}
 use Rattle.placing.specs.rules.Choice.{cornerAt}
 use Rattle.placing.specs.code.Sites.{sitesOf}
-use Rattle.placing.specs.code.Crowding.{aboveAt, CrowdedAbove, CrowdingIs}
+use Rattle.placing.specs.code.Crowding.{reachOf, reachesAt, ReachIs, CrowdingIs}
 use Rattle.placing.specs.search.State.{Fresh}
 use Rattle.placing.specs.search.Labels.{labels}
 use Rattle.placing.specs.code.Ways.{rowAt, rowOf, Sizes}
 
--- The byte of a corner that is crowded at the sides above `above`: 1 where `side` is not one of them.
-pub record OpenByte (above side byte : ℕ) : Type 0 where
-  pub opens : side ≤ above → byte ≡ 1
-  pub uncrowded : byte ≡ 1 → side ≤ above
+-- The byte of a corner with this reach: 1 where the doubled side is within it.
+pub record OpenByte (reach side byte : ℕ) : Type 0 where
+  pub opens : doubled side ≤ reach → byte ≡ 1
+  pub uncrowded : byte ≡ 1 → doubled side ≤ reach
 
--- The four bytes of site i were written, by the numbers a, b, c, d of its corners.
+-- The four bytes of site i were written, by the reaches a, b, c, d of its corners.
 pub record OpenedRow (ways : List ℕ) (a b c d side i : ℕ) (ways′ : List ℕ) : Type 0 where
-  pub size : length ways′ ≡ 960
+  pub size : length ways′ ≡ 4 * mostSites
   pub there : (e : ℕ) → Corner e → OpenByte (rowAt a b c d e) side (rowOf ways′ i e)
   pub elsewhere : (j : ℕ) → j ≢ i → rowOf ways′ j ≡ rowOf ways j
 
 -- The bytes of the sites below k are written.
 pub record OpenedBelow (crowding : Crowding) (side k : ℕ) (ways : List ℕ) : Type 0 where
-  pub size : length ways ≡ 960
-  pub at-site : (i c : ℕ) → i < k → Corner c → OpenByte (getD (aboveAt crowding c) i 0) side (rowOf ways i c)
+  pub size : length ways ≡ 4 * mostSites
+  pub at-site : (i c : ℕ) → i < k → Corner c → OpenByte (reachOf (reachesAt crowding i) c) side (rowOf ways i c)
 
--- The state at a side before anything is decided, for every n sites that have these numbers.
+-- The state at a side before anything is decided, for every n sites that have these reaches.
 pub record FreshState (crowding : Crowding) (n : ℕ) (side : HalfUnits) (ways decided : List ℕ) : Type 0 where
   pub sizes : Sizes ways decided
   pub fresh : (xs ys : List ℕ) → side .0 ≤ freeSide → CrowdingIs (sitesOf n xs ys) n crowding
@@ -108,7 +109,7 @@ written-there ways i p q r s inside =
     earlier : (xs : List ℕ) (k m v : ℕ) → m < k → getD (set xs k v) m 0 ≡ getD xs m 0
     earlier xs k m v before = getD-set-other xs k m v 0 (omega arith)
 
--- Four bytes that the four numbers ask for.
+-- Four bytes that the four reaches ask for.
 row-byte : (a b c d side p q r s : ℕ) → OpenByte a side p → OpenByte b side q → OpenByte c side r → OpenByte d side s
     → (e : ℕ) → Corner e → OpenByte (rowAt a b c d e) side (rowAt p q r s e)
 row-byte a b c d side p q r s one two three four zero corner = absurd (omega arith)
@@ -119,7 +120,7 @@ row-byte a b c d side p q r s one two three four (suc (suc (suc (suc zero)))) co
 row-byte a b c d side p q r s one two three four (suc (suc (suc (suc (suc e))))) corner = absurd (omega arith)
 
 -- The four bytes of a site are written.
-pub opened-row : {ways : List ℕ} {a b c d side i p q r s : ℕ} → length ways ≡ 960 → i < 240
+pub opened-row : {ways : List ℕ} {a b c d side i p q r s : ℕ} → length ways ≡ 4 * mostSites → i < mostSites
     → OpenByte a side p → OpenByte b side q → OpenByte c side r → OpenByte d side s
     → OpenedRow ways a b c d side i (written ways i p q r s)
 opened-row {ways} {a} {b} {c} {d} {side} {i} {p} {q} {r} {s} size listed one two three four =
@@ -130,66 +131,65 @@ opened-row {ways} {a} {b} {c} {d} {side} {i} {p} {q} {r} {s} size listed one two
       elsewhere = λ j other. written-elsewhere ways i p q r s j other;
     }
 
--- A site's number for a corner.
-number-at : (crowding : Crowding) (i c : ℕ) → Corner c
-    → rowAt (getD (crowding .first) i 0) (getD (crowding .second) i 0) (getD (crowding .third) i 0) (getD (crowding .fourth) i 0) c
-    ≡ getD (aboveAt crowding c) i 0
-number-at crowding i zero corner = absurd (omega arith)
-number-at crowding i (suc zero) corner = refl
-number-at crowding i (suc (suc zero)) corner = refl
-number-at crowding i (suc (suc (suc zero))) corner = refl
-number-at crowding i (suc (suc (suc (suc zero)))) corner = refl
-number-at crowding i (suc (suc (suc (suc (suc c))))) corner = absurd (omega arith)
+-- A site's reach at a corner, off its row.
+reach-at : (reaches : Reaches) (c : ℕ) → Corner c
+    → rowAt (reaches .first .0) (reaches .second .0) (reaches .third .0) (reaches .fourth .0) c ≡ reachOf reaches c
+reach-at reaches zero corner = absurd (omega arith)
+reach-at reaches (suc zero) corner = refl
+reach-at reaches (suc (suc zero)) corner = refl
+reach-at reaches (suc (suc (suc zero))) corner = refl
+reach-at reaches (suc (suc (suc (suc zero)))) corner = refl
+reach-at reaches (suc (suc (suc (suc (suc c))))) corner = absurd (omega arith)
 
 -- The bytes of no sites are written ..
-pub opened-none : {crowding : Crowding} {side : ℕ} {ways : List ℕ} → length ways ≡ 960 → OpenedBelow crowding side 0 ways
+pub opened-none : {crowding : Crowding} {side : ℕ} {ways : List ℕ} → length ways ≡ 4 * mostSites → OpenedBelow crowding side 0 ways
 opened-none size = record { size = size; at-site = λ i c listed. absurd (omega arith) }
 
 -- .. and of one site more.
 pub opened-more : {crowding : Crowding} {side k : ℕ} {ways ways′ : List ℕ} → OpenedBelow crowding side k ways
-    → OpenedRow ways (getD (crowding .first) k 0) (getD (crowding .second) k 0) (getD (crowding .third) k 0) (getD (crowding .fourth) k 0)
-    side k ways′
+    → OpenedRow ways (reachesAt crowding k .first .0) (reachesAt crowding k .second .0) (reachesAt crowding k .third .0)
+    (reachesAt crowding k .fourth .0) side k ways′
     → OpenedBelow crowding side (k + 1) ways′
 opened-more {crowding} {side} {k} {ways} {ways′} so-far row =
     record { size = row .size; at-site = λ i c listed corner. go i c listed corner (ℕ-discrete i k) }
   where
-    go : (i c : ℕ) → i < k + 1 → Corner c → Dec (i ≡ k) → OpenByte (getD (aboveAt crowding c) i 0) side (rowOf ways′ i c)
-    go i c listed corner (yes last) = rw (last, ← number-at crowding k c corner) (row .there c corner)
+    go : (i c : ℕ) → i < k + 1 → Corner c → Dec (i ≡ k) → OpenByte (reachOf (reachesAt crowding i) c) side (rowOf ways′ i c)
+    go i c listed corner (yes last) = rw (last, ← reach-at (reachesAt crowding k) c corner) (row .there c corner)
     go i c listed corner (no earlier) = rw (row .elsewhere i earlier) (so-far .at-site i c (omega arith) corner)
 
 -- A corner is open where it is a candidate, and only there.
-module _ {ps : List Place} {side i c above byte : ℕ} (judged : side ≤ freeSide) (number : CrowdedAbove ps i c above)
-    (known : OpenByte above side byte) where
+module _ {ps : List Place} {side i c reach byte : ℕ} (judged : side ≤ freeSide) (known : ReachIs ps i c reach)
+    (written : OpenByte reach side byte) where
   open-uncrowded : byte ≡ 1 → Crowded side ps i c → ⊥
   open-uncrowded one crowded =
-      let passed = number .below side judged crowded in
-      let open-to = known .uncrowded one in
+      let passed = known .below side judged crowded in
+      let within = written .uncrowded one in
       omega arith
 
   uncrowded-open : (Crowded side ps i c → ⊥) → byte ≡ 1
-  uncrowded-open uncrowded = go (decLe side above)
+  uncrowded-open uncrowded = go (decLe (doubled side) reach)
     where
-      go : Dec (side ≤ above) → byte ≡ 1
-      go (yes within) = known .opens within
-      go (no beyond) = absurd (uncrowded (number .crowds side judged (omega arith)))
+      go : Dec (doubled side ≤ reach) → byte ≡ 1
+      go (yes within) = written .opens within
+      go (no beyond) = absurd (uncrowded (known .crowds side judged (omega arith)))
 
 -- With the bytes of all sites written, and nothing decided, the state is fresh.
-pub fresh-all : {crowding : Crowding} {n : ℕ} {side : HalfUnits} {ways : List ℕ} → n ≤ 240 → OpenedBelow crowding (side .0) n ways
-    → FreshState crowding n side ways (replicate 240 0)
+pub fresh-all : {crowding : Crowding} {n : ℕ} {side : HalfUnits} {ways : List ℕ} → n ≤ mostSites → OpenedBelow crowding (side .0) n ways
+    → FreshState crowding n side ways (replicate mostSites 0)
 fresh-all {crowding} {n} {side} {ways} few opened =
     record {
       sizes = record { ways-size = opened .size; decided-size = refl };
-      fresh = λ xs ys judged numbers.
+      fresh = λ xs ys judged known.
           record {
             candidate = λ i c listed one.
                 let corner = open-corner ways i c one in
                 record {
                   corner = corner;
-                  uncrowded = open-uncrowded judged (numbers .at-corner c corner .at-site i listed) (opened .at-site i c listed corner) one;
+                  uncrowded = open-uncrowded judged (known .at-site i listed .at-corner c corner) (opened .at-site i c listed corner) one;
                 };
             all-open = λ i c listed candidate.
-                uncrowded-open judged (numbers .at-corner c (candidate .corner) .at-site i listed)
+                uncrowded-open judged (known .at-site i listed .at-corner c (candidate .corner))
                 (opened .at-site i c listed (candidate .corner)) (candidate .uncrowded);
-            undecided = λ i listed. getD-replicate 240 i 0 0 (omega arith);
+            undecided = λ i listed. getD-replicate mostSites i 0 0 (omega arith);
           };
     }

@@ -10,14 +10,14 @@ use lib.ListN.{length, take, replicate}
 use Rattle.placing.specs.declared.crowding.Crowding.{Crowding}
 use Rattle.placing.specs.declared.side.Placed.{Placed}
 use Rattle.placing.specs.declared.units.Place.{Place}
-use Rattle.placing.specs.rules.Units.{Distinct, InRange, freeSide, xOf, yOf, siteAt}
+use Rattle.placing.specs.rules.Units.{mostSites, Distinct, InRange, freeSide, xOf, yOf, siteAt}
 use Rattle.placing.specs.rules.Answer.{Answer, firstGood}
 use Rattle.placing.specs.code.Sites.{Held, placeAt, sitesOf, length-sites, site-at}
 use Rattle.placing.specs.code.Crowding.{judgedFree, CrowdingIs}
 
 -- An answer as the record that placing hands back: its corners, then zeros.
 abbrev pub placedAs : Answer → Placed
-placedAs a = record { side = a .side; corners = a .corners ++ replicate (240 - length (a .corners)) 0 }
+placedAs a = record { side = a .side; corners = a .corners ++ replicate (mostSites - length (a .corners)) 0 }
 
 -- Finding the answer of n sites at these coordinates.
 pub record MayFind (n : ℕ) (xs ys : List ℕ) (marks : List ℕ) : Type 0 where
@@ -36,15 +36,15 @@ pub record MayBisect (n : ℕ) (xs ys : List ℕ) (crowding : Crowding) (marks :
 -- Placing the first n of these sites with a lent table. "Placing borrows a work table of at least n × n bytes for n sites."
 pub record MayPlace (n : ℕ) (sites : List Place) (table : List ℕ) : Type 0 where
   pub some-sites : 1 ≤ n
-  pub few : n ≤ 240
+  pub few : n ≤ mostSites
   pub distinct : Distinct (take n sites)
   pub in-range : InRange (take n sites)
   pub room : n * n ≤ length table
 
 -- Two lists of coordinates of the first n sites.
 pub record CoordinatesOf (n : ℕ) (sites : List Place) (xs ys : List ℕ) : Type 0 where
-  pub x-size : length xs ≡ 240
-  pub y-size : length ys ≡ 240
+  pub x-size : length xs ≡ mostSites
+  pub y-size : length ys ≡ mostSites
   pub same-sites : sitesOf n xs ys ≡ take n sites
 
 -- The lists of coordinates of a list that may be placed.

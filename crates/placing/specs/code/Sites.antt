@@ -4,10 +4,11 @@ use mathlib.Core.Path.{_≡_, refl, ap}
 use mathlib.Core.List.{List, [], _∷_}
 use Prim.Native.Nat.{ℕ, zero, suc, _≤_, _<_}
 use native.Mathlib.Nat.{le-of-suc-le-suc, not-suc-le-zero}
+use native.Mathlib.Omega.{arith}
 use lib.ListN.{length, getD}
 use Rattle.placing.specs.declared.units.HalfUnits.{HalfUnits}
 use Rattle.placing.specs.declared.units.Place.{Place}
-use Rattle.placing.specs.rules.Units.{greatestCoordinate, freeSide, nowhere, siteAt}
+use Rattle.placing.specs.rules.Units.{mostSites, greatestCoordinate, freeSide, nowhere, siteAt, OnPlan}
 
 -- The place of site number i.
 abbrev pub placeAt : List ℕ → List ℕ → ℕ → Place
@@ -41,11 +42,11 @@ pub site-at : (n : ℕ) (xs ys : List ℕ) (i : ℕ) → i < n → siteAt (sites
 unfolding sitesOf
 site-at n xs ys i h = getD-listed (placeAt xs ys) n i nowhere h
 
--- What a trial may rely on: at most 240 sites, coordinates in range, a side that is judged.
+-- What a trial may rely on: no more sites than a plan holds, coordinates in range, a side that is judged.
 pub record Held (n : ℕ) (xs ys : List ℕ) (side : HalfUnits) : Type 0 where
-  pub few : n ≤ 240
-  pub x-size : length xs ≡ 240
-  pub y-size : length ys ≡ 240
+  pub few : n ≤ mostSites
+  pub x-size : length xs ≡ mostSites
+  pub y-size : length ys ≡ mostSites
   pub x-range : (i : ℕ) → i < n → getD xs i 0 ≤ greatestCoordinate
   pub y-range : (i : ℕ) → i < n → getD ys i 0 ≤ greatestCoordinate
   pub judged : side .0 ≤ freeSide
@@ -60,4 +61,21 @@ held-at other judged held =
       x-range = held .x-range;
       y-range = held .y-range;
       judged = judged;
+    }
+
+-- Site i stands in the two lists, at a place of the plan.
+pub record HasPlace (xs ys : List ℕ) (i : ℕ) : Type 0 where
+  pub x-size : length xs ≡ mostSites
+  pub y-size : length ys ≡ mostSites
+  pub inside : i < mostSites
+  pub on-plan : OnPlan (placeAt xs ys i)
+
+-- A site of a list that a trial holds is one.
+pub held-place : {n i : ℕ} {xs ys : List ℕ} {side : HalfUnits} → Held n xs ys side → i < n → HasPlace xs ys i
+held-place {n} {i} held listed =
+    record {
+      x-size = held .x-size;
+      y-size = held .y-size;
+      inside = omega (arith, held .few);
+      on-plan = record { on-x = record { range = held .x-range i listed }; on-y = record { range = held .y-range i listed } };
     }

@@ -13,6 +13,10 @@ use Rattle.placing.specs.declared.units.Place.{Place}
 abbrev pub halves : ℕ → ℕ
 halves d = 2 * d
 
+-- Twice a side of h half units: the side of the doubled label.
+abbrev pub doubled : ℕ → ℕ
+doubled h = 2 * h
+
 -- The distance between two places of an axis, |a - b|.
 abbrev pub dist : ℕ → ℕ → ℕ
 dist a b = (a - b) + (b - a)

@@ -1,10 +1,10 @@
--- `crowding::crowding_of` meets its contract. The loop's invariant: the arrays have the numbers of the sites below `i`.
+-- `crowding::crowding_of` meets its contract. The loop's invariant: the arrays have the reaches of the sites below `i`.
 -- Assumes nothing.
 use Prim.Native.Nat.{_≤_, _-_}
 use native.Mathlib.Omega.{arith}
-use mathlib.Core.Path.{_≡_, refl}
+use mathlib.Core.Path.{refl}
 use Rattle.placing.specs.code.Sites.{sitesOf}
-use Rattle.placing.specs.code.Crowding.{CrowdingBelow, crowding-none, crowding-more}
+use Rattle.placing.specs.code.Crowding.{CrowdingBelow, crowding-none, crowding-more, crowding-all}
 use Rattle.placing.proofs.crowding.crowding_of.Statement.{statement}
 use Rattle.placing.proofs.crowding.crowding_of.Tie as tie
 
@@ -18,32 +18,32 @@ abbrev μ-loop : tie.MeasureT-loop
 loop-holds : tie.Need-loop-holds Inv-loop μ-loop
 loop-holds c = (omega arith, crowding-none refl refl refl refl)
 
-crowded-above-requires : tie.Need-crowded-above-requires Inv-loop μ-loop
-crowded-above-requires c κs = (c .before .before .pre, c .loop-test .taken)
+reaches-of-requires : tie.Need-reaches-of-requires Inv-loop μ-loop
+reaches-of-requires c κs = (c .before .before .pre, c .loop-test .taken)
 
 mul-first : tie.Need-mul-first Inv-loop μ-loop
 mul-first c = omega arith
 
-array-write-first : tie.Need-array-write-first Inv-loop μ-loop
-array-write-first c = omega arith
+array-set-from-first : tie.Need-array-set-from-first Inv-loop μ-loop
+array-set-from-first c = omega arith
 
 mul-second : tie.Need-mul-second Inv-loop μ-loop
 mul-second c = omega arith
 
-array-write-second : tie.Need-array-write-second Inv-loop μ-loop
-array-write-second c = omega arith
+array-set-from-second : tie.Need-array-set-from-second Inv-loop μ-loop
+array-set-from-second c = omega arith
 
 mul-third : tie.Need-mul-third Inv-loop μ-loop
 mul-third c = omega arith
 
-array-write-third : tie.Need-array-write-third Inv-loop μ-loop
-array-write-third c = omega arith
+array-set-from-third : tie.Need-array-set-from-third Inv-loop μ-loop
+array-set-from-third c = omega arith
 
 mul-fourth : tie.Need-mul-fourth Inv-loop μ-loop
 mul-fourth c = omega arith
 
-array-write-fourth : tie.Need-array-write-fourth Inv-loop μ-loop
-array-write-fourth c = omega arith
+array-set-from-fourth : tie.Need-array-set-from-fourth Inv-loop μ-loop
+array-set-from-fourth c = omega arith
 
 add-i : tie.Need-add-i Inv-loop μ-loop
 add-i c = omega arith
@@ -53,13 +53,11 @@ loop-less c = omega arith
 
 loop-again : tie.Need-loop-again Inv-loop μ-loop
 loop-again c =
-    let turn = c .before .before in
-    (omega arith, crowding-more (omega arith) (turn .loop .inv .1) (c .crowded-above .ensures))
+    let found = c .before .before .before .before in
+    (omega arith, crowding-more (omega arith) (found .before .before .loop .inv .1) (found .reaches-of .ensures))
 
 returns : tie.Need-returns Inv-loop μ-loop
-returns c =
-    let all : c .before .loop .i ≡ c .before .before .args .n = omega arith in
-    rw all at (c .before .loop .inv .1 .numbers)
+returns c = crowding-all (omega arith) (c .before .loop .inv .1)
 
 pub crowding-of-spec : {M : Type 1} → statement M
 crowding-of-spec =
@@ -68,15 +66,15 @@ crowding-of-spec =
     Inv-loop
     μ-loop
     loop-holds
-    crowded-above-requires
+    reaches-of-requires
     mul-first
-    array-write-first
+    array-set-from-first
     mul-second
-    array-write-second
+    array-set-from-second
     mul-third
-    array-write-third
+    array-set-from-third
     mul-fourth
-    array-write-fourth
+    array-set-from-fourth
     add-i
     loop-less
     loop-again

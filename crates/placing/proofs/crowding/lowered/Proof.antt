@@ -14,7 +14,7 @@ doubled-covers-requires c κs = search needs
 
 returns-2 : tie.Need-returns-2
 returns-2 c =
-    rw (c .before .before .before .pre .3) (lowered-there (omega arith) (c .before .doubled-covers .ensures .yes-holds (c .if2 .taken)))
+    rw (c .before .before .before .before .before .pre .3) (lowered-there (omega arith) (c .before .doubled-covers .ensures .yes-holds (c .if2 .taken)))
 
 returns-3 : tie.Need-returns-3
 returns-3 c = lowered-elsewhere (c .before .doubled-covers .ensures .no-fails (c .if2 .left))

@@ -1,19 +1,13 @@
--- `crowding::nearer` meets its contract: each call gives the number of one corner.
+-- `crowding::nearer` meets its contract: each call gives the reach of one corner.
 -- Assumes nothing.
 use borrow.Author.Needs.{needs}
-use Rattle.placing.specs.code.Crowding.{aboveOf, Lowered, each-corner}
-use Rattle.placing.specs.declared.crowding.Above.{Above}
+use Rattle.placing.specs.code.Crowding.{reachOf, Lowered, each-corner}
+use Rattle.placing.specs.declared.crowding.Reaches.{Reaches}
 use Rattle.placing.proofs.crowding.nearer.Statement.{statement}
 use Rattle.placing.proofs.crowding.nearer.Tie as tie
 
-distance-requires : tie.Need-distance-requires
-distance-requires c κs = search needs
-
-distance-requires-2 : tie.Need-distance-requires-2
-distance-requires-2 c κs = search needs
-
-larger-requires : tie.Need-larger-requires
-larger-requires c κs = search needs
+apart-requires : tie.Need-apart-requires
+apart-requires c κs = search needs
 
 lowered-requires : tie.Need-lowered-requires
 lowered-requires c κs = search needs
@@ -30,8 +24,8 @@ lowered-requires-4 c κs = search needs
 returns : tie.Need-returns
 returns c =
     let one = c .before .before .before in
-    let asked = one .before .before .before .before .args in
-    let below : Above =
+    let asked = one .before .before .args in
+    let after : Reaches =
     record {
       first = one .lowered .result;
       second = c .before .before .lowered2 .result;
@@ -40,7 +34,7 @@ returns c =
     }
     in
     record {
-      at-corner = each-corner (λ k. Lowered (asked .s) k (asked .t) (aboveOf (asked .above) k) (aboveOf below k))
+      at-corner = each-corner (λ k. Lowered (asked .s) k (asked .t) (reachOf (asked .reaches) k) (reachOf after k))
           (one .lowered .ensures) (c .before .before .lowered2 .ensures) (c .before .lowered3 .ensures) (c .lowered4 .ensures);
     }
 
@@ -48,9 +42,7 @@ pub nearer-spec : {M : Type 1} → statement M
 nearer-spec =
     tie.close
     (tie.spec
-    distance-requires
-    distance-requires-2
-    larger-requires
+    apart-requires
     lowered-requires
     lowered-requires-2
     lowered-requires-3

@@ -20,26 +20,26 @@ loop-holds c = (omega arith, opened-none refl)
 mul-open-row : tie.Need-mul-open-row Inv-loop μ-loop
 mul-open-row c = omega arith
 
-array-read-open-row : tie.Need-array-read-open-row Inv-loop μ-loop
-array-read-open-row c = omega arith
+array-copy-out-open-row : tie.Need-array-copy-out-open-row Inv-loop μ-loop
+array-copy-out-open-row c = omega arith
 
 mul-open-row-2 : tie.Need-mul-open-row-2 Inv-loop μ-loop
 mul-open-row-2 c = omega arith
 
-array-read-open-row-2 : tie.Need-array-read-open-row-2 Inv-loop μ-loop
-array-read-open-row-2 c = omega arith
+array-copy-out-open-row-2 : tie.Need-array-copy-out-open-row-2 Inv-loop μ-loop
+array-copy-out-open-row-2 c = omega arith
 
 mul-open-row-3 : tie.Need-mul-open-row-3 Inv-loop μ-loop
 mul-open-row-3 c = omega arith
 
-array-read-open-row-3 : tie.Need-array-read-open-row-3 Inv-loop μ-loop
-array-read-open-row-3 c = omega arith
+array-copy-out-open-row-3 : tie.Need-array-copy-out-open-row-3 Inv-loop μ-loop
+array-copy-out-open-row-3 c = omega arith
 
 mul-open-row-4 : tie.Need-mul-open-row-4 Inv-loop μ-loop
 mul-open-row-4 c = omega arith
 
-array-read-open-row-4 : tie.Need-array-read-open-row-4 Inv-loop μ-loop
-array-read-open-row-4 c = omega arith
+array-copy-out-open-row-4 : tie.Need-array-copy-out-open-row-4 Inv-loop μ-loop
+array-copy-out-open-row-4 c = omega arith
 
 open-row-requires : tie.Need-open-row-requires Inv-loop μ-loop
 open-row-requires c κs = omega arith
@@ -52,7 +52,7 @@ loop-less c = omega arith
 
 loop-again : tie.Need-loop-again Inv-loop μ-loop
 loop-again c =
-    let turn = c .before .before .before in
+    let turn = c .before .before .before .before .before .before .before in
     (omega arith, opened-more (turn .loop .inv .1) (c .open-row .ensures))
 
 returns : tie.Need-returns Inv-loop μ-loop
@@ -60,7 +60,7 @@ returns c =
     let at-end = c .before in
     let start = at-end .before .before .before .before .before in
     let all : at-end .loop .i ≡ start .args .n = omega arith in
-    fresh-all (start .pre) (rw all at (at-end .loop .inv .1))
+    fresh-all (start .pre .0) (rw all at (at-end .loop .inv .1))
 
 pub fresh-state-spec : {M : Type 1} → statement M
 fresh-state-spec =
@@ -70,13 +70,13 @@ fresh-state-spec =
     μ-loop
     loop-holds
     mul-open-row
-    array-read-open-row
+    array-copy-out-open-row
     mul-open-row-2
-    array-read-open-row-2
+    array-copy-out-open-row-2
     mul-open-row-3
-    array-read-open-row-3
+    array-copy-out-open-row-3
     mul-open-row-4
-    array-read-open-row-4
+    array-copy-out-open-row-4
     open-row-requires
     add-i
     loop-less

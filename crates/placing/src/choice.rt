@@ -9,18 +9,40 @@ use crate::units::HalfUnits;
 use crate::units::Limits;
 ghost use mathlib.Core.Path.{_≡_};
 ghost use Prim.Native.Nat.{_+_, _<_};
-ghost use Rattle.placing.specs.rules.Choice.{cornerAt};
 ghost use Rattle.placing.specs.rules.Answer.{firstGood};
 ghost use Rattle.placing.specs.code.Sites.{sitesOf};
 ghost use Rattle.placing.specs.search.Labels.{labels};
-ghost use Rattle.placing.specs.code.Ways.{WalkedTo, Kept};
-ghost use Rattle.placing.specs.code.Asks.{MayWalk, MayChoose};
+ghost use Rattle.placing.specs.code.Ways.{Tried, WalkedTo, Kept};
+ghost use Rattle.placing.specs.code.Asks.{MayWalk, MayDecide, MayChoose};
 ghost use Rattle.placing.specs.code.Chosen.{choiceIn};
 
 // The corners of a good choice, where there is one.
 pub(crate) struct Chosen {
     pub ok: bool,
     pub corners: [u8; Limits::SITES],
+}
+
+// Tries corner `e` + 1 of site `i` where it is open. No where it is not, or its trial fails.
+fn try_open(
+    xs: &[u32; Limits::SITES],
+    ys: &[u32; Limits::SITES],
+    n: usize,
+    side: HalfUnits,
+    state: State,
+    marks: &mut [u8],
+    i: usize,
+    e: usize,
+) -> Attempt
+    requires { ⌜ MayDecide n (now xs) (now ys) side (state .ways) (state .decided) (now marks) i × (e < 4) ⌝ }
+    ensures tried { λ r. ⌜ Tried (labels (side .0) n (now (xs .entry)) (now (ys .entry)))
+        (state .ways) (state .decided) i (e + 1) (r .ok) (r .state .ways) (r .state .decided) ⌝ }
+    ensures kept { λ r. ⌜ Kept n (now (marks .entry)) (now (marks .exit)) ⌝ }
+{
+    let at = 4 * i + e;
+    if state.ways[at] == 1 {
+        return try_corner(xs, ys, n, side, state, marks, i, (e + 1) as u8);
+    }
+    Attempt { ok: false, state }
 }
 
 // Decides site `i` by its lowest open corner whose trial does not fail. No where all fail.
@@ -33,19 +55,15 @@ fn choose_corner(
     marks: &mut [u8],
     i: usize,
 ) -> Attempt
-    requires { ⌜ MayWalk n (now xs) (now ys) side (state .ways) (state .decided) (now marks) i
-        × (i < n) × (cornerAt (state .decided) i ≡ 0) ⌝ }
+    requires { ⌜ MayDecide n (now xs) (now ys) side (state .ways) (state .decided) (now marks) i ⌝ }
     ensures walked { λ r. ⌜ WalkedTo (labels (side .0) n (now (xs .entry)) (now (ys .entry))) (i + 1)
         (r .ok) (r .state .ways) (r .state .decided) ⌝ }
     ensures kept { λ r. ⌜ Kept n (now (marks .entry)) (now (marks .exit)) ⌝ }
 {
     for e in 0..4 {
-        let at = 4 * i + e;
-        if state.ways[at] == 1 {
-            let tried = try_corner(xs, ys, n, side, state, marks, i, (e + 1) as u8);
-            if tried.ok {
-                return tried;
-            }
+        let tried = try_open(xs, ys, n, side, state, marks, i, e);
+        if tried.ok {
+            return tried;
         }
     }
     Attempt { ok: false, state }

@@ -13,6 +13,7 @@ ghost use Rattle.placing.specs.rules.Answer.{answerOf};
 ghost use Rattle.placing.specs.code.Sites.{sitesOf};
 ghost use Rattle.placing.specs.code.Ways.{Kept};
 ghost use Rattle.placing.specs.code.Placed.{placedAs, MayFind, MayBisect};
+ghost use Rattle.placing.specs.code.Bisect.{MayHalve, Halved};
 
 // The placed answer: the side, and the corner of each site in list order, 0 past the last.
 pub struct Placed {
@@ -32,6 +33,46 @@ fn first_corners(corners: [u8; Limits::SITES], n: usize) -> [u8; Limits::SITES]
     first
 }
 
+// Two sides of which `low` has a good choice, the first with these corners, and `high` has none.
+struct Between {
+    low: HalfUnits,
+    high: HalfUnits,
+    corners: [u8; Limits::SITES],
+}
+
+// The half of what lies between in which the greatest side with a good choice is.
+fn halve(
+    xs: &[u32; Limits::SITES],
+    ys: &[u32; Limits::SITES],
+    n: usize,
+    crowding: Crowding,
+    between: Between,
+    marks: &mut [u8],
+) -> Between
+    requires { ⌜ MayHalve n (now xs) (now ys) crowding between (now marks) ⌝ }
+    ensures halved { λ r. ⌜ Halved (sitesOf n (now (xs .entry)) (now (ys .entry))) n between r ⌝ }
+    ensures kept { λ r. ⌜ Kept n (now (marks .entry)) (now (marks .exit)) ⌝ }
+{
+    let low = between.low;
+    let high = between.high;
+    let middle = HalfUnits(low.0 + (high.0 - low.0) / 2);
+    let chosen = choose(xs, ys, n, crowding, middle, marks);
+    if chosen.ok {
+        let corners = chosen.corners;
+        return Between {
+            low: middle,
+            high,
+            corners,
+        };
+    }
+    let corners = between.corners;
+    Between {
+        low,
+        high: middle,
+        corners,
+    }
+}
+
 // The greatest side that has a good choice, where 20,001 has none. At 1 every choice is good, and corner 1 everywhere is the
 // first.
 fn bisect(
@@ -45,23 +86,19 @@ fn bisect(
     ensures answer { λ r. ⌜ r ≡ placedAs (answerOf (sitesOf n (now (xs .entry)) (now (ys .entry)))) ⌝ }
     ensures kept { λ r. ⌜ Kept n (now (marks .entry)) (now (marks .exit)) ⌝ }
 {
-    let mut low = Limits::LEAST_SIDE;
-    let mut high = Limits::FREE_SIDE;
-    let mut corners = [1u8; Limits::SITES];
-    while low + 1 < high {
-        let middle = low + (high - low) / 2;
-        let chosen = choose(xs, ys, n, crowding, HalfUnits(middle), marks);
-        if chosen.ok {
-            let better = chosen.corners;
-            corners = better;
-            low = middle;
-        } else {
-            high = middle;
-        }
+    let mut between = Between {
+        low: HalfUnits(Limits::LEAST_SIDE),
+        high: HalfUnits(Limits::FREE_SIDE),
+        corners: [1u8; Limits::SITES],
+    };
+    while between.low.0 + 1 < between.high.0 {
+        between = halve(xs, ys, n, crowding, between, marks);
     }
+    let side = between.low;
+    let corners = between.corners;
     let first = first_corners(corners, n);
     Placed {
-        side: Side::Number(HalfUnits(low)),
+        side: Side::Number(side),
         corners: first,
     }
 }

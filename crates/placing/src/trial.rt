@@ -9,10 +9,11 @@ use crate::units::Place;
 use crate::units::Units;
 ghost use mathlib.Core.Path.{_≡_};
 ghost use Prim.Native.Nat.{ℕ, _≤_, _<_};
-ghost use lib.ListN.{length};
+ghost use lib.ListN.{length, set};
 ghost use Rattle.placing.specs.rules.Corner.{Corner};
 ghost use Rattle.placing.specs.search.Labels.{labels};
-ghost use Rattle.placing.specs.code.Ways.{rowAt, LeftIs, Sizes, TakenCorner, ClosedCorner, CarriedThere, CarriedOut, FirstWaiting, Kept, Marked, CarriedOn, Tried};
+ghost use Rattle.placing.specs.rules.Decides.{Decides};
+ghost use Rattle.placing.specs.code.Ways.{rowAt, LeftIs, Sizes, TakenCorner, ClosedCorner, CarriedThere, CarriedOut, Waits, FirstWaiting, Kept, markOf, Marked, CarriedOn, Tried};
 ghost use Rattle.placing.specs.code.Asks.{MayCarryTo, MayCarryOut, MayCarryOn, MayTry};
 
 // Which corners of a site are open: nothing, one, or more.
@@ -152,21 +153,48 @@ fn carry_out(
     true
 }
 
-// The first decided site that is not marked, or `n`.
+// Site `k` waits: it is decided and not marked. The arrays are lent, so that a marked site costs one byte read.
+fn waits(decided: &[u8; Limits::SITES], marks: &[u8], k: usize) -> bool
+    requires { ⌜ (length (now decided) ≡ 240) × (k < 240) × (k < length (now marks)) ⌝ }
+    ensures { λ r. ⌜ Decides r (Waits (now (decided .entry)) (now (marks .entry)) k) ⌝ }
+{
+    if marks[k] == 1 {
+        return false;
+    }
+    decided[k] != 0
+}
+
+// The first site that waits, or `n`.
 fn first_waiting(decided: &[u8; Limits::SITES], marks: &[u8], n: usize) -> usize
     requires { ⌜ (length (now decided) ≡ 240) × (n ≤ 240) × (n ≤ length (now marks)) ⌝ }
     ensures { λ r. ⌜ FirstWaiting (now (decided .entry)) (now (marks .entry)) n r ⌝ }
 {
-    let mut k = 0;
-    while k < n {
-        if marks[k] != 1 {
-            if decided[k] != 0 {
-                return k;
-            }
+    for k in 0..n {
+        if waits(decided, marks, k) {
+            return k;
         }
-        k += 1;
     }
-    k
+    n
+}
+
+// Marks site `k` and carries its decision out. No where a site is left with no corner.
+fn mark_and_carry(
+    xs: &[u32; Limits::SITES],
+    ys: &[u32; Limits::SITES],
+    n: usize,
+    side: HalfUnits,
+    ways: &mut [u8; Limits::WAYS],
+    decided: &mut [u8; Limits::SITES],
+    marks: &mut [u8],
+    k: usize,
+) -> bool
+    requires { ⌜ MayCarryOut n (now xs) (now ys) side (now ways) (now decided) k × (n ≤ length (now marks)) ⌝ }
+    ensures carried { λ r. ⌜ CarriedOut (labels (side .0) n (now (xs .entry)) (now (ys .entry)))
+        (now (ways .entry)) (now (decided .entry)) k r (now (ways .exit)) (now (decided .exit)) ⌝ }
+    ensures marked { λ r. ⌜ now (marks .exit) ≡ set (now (marks .entry)) k 1 ⌝ }
+{
+    marks[k] = 1;
+    carry_out(xs, ys, n, side, ways, decided, k)
 }
 
 // Carries out every decision that is not marked, and marks it. No where a site is left with no corner.
@@ -189,11 +217,17 @@ fn carry_on(
         if k == n {
             return true;
         }
-        marks[k] = 1;
-        if !carry_out(xs, ys, n, side, ways, decided, k) {
+        if !mark_and_carry(xs, ys, n, side, ways, decided, marks, k) {
             return false;
         }
     }
+}
+
+// The mark of a site by its decided corner.
+fn mark_of(decided: u8) -> u8
+    ensures { λ r. ⌜ r ≡ markOf decided ⌝ }
+{
+    if decided == 0 { 0 } else { 1 }
 }
 
 // Marks the decided sites.
@@ -203,11 +237,7 @@ fn mark(decided: &[u8; Limits::SITES], marks: &mut [u8], n: usize)
     ensures kept { λ r. ⌜ Kept n (now (marks .entry)) (now (marks .exit)) ⌝ }
 {
     for j in 0..n {
-        if decided[j] == 0 {
-            marks[j] = 0;
-        } else {
-            marks[j] = 1;
-        }
+        marks[j] = mark_of(decided[j]);
     }
 }
 

@@ -64,6 +64,12 @@ pub record MayWalk (n : ℕ) (xs ys : List ℕ) (side : HalfUnits) (ways decided
   pub room : n ≤ length marks
   pub walked : Walked (labels (side .0) n xs ys) i (rowOf ways) (cornerAt decided)
 
+-- Deciding site i, to which the walk has come.
+pub record MayDecide (n : ℕ) (xs ys : List ℕ) (side : HalfUnits) (ways decided marks : List ℕ) (i : ℕ) : Type 0 where
+  pub walking : MayWalk n xs ys side ways decided marks i
+  pub listed : i < n
+  pub undecided : cornerAt decided i ≡ 0
+
 -- Choosing at a side.
 pub record MayChoose (n : ℕ) (xs ys : List ℕ) (side : HalfUnits) (crowding : Crowding) (marks : List ℕ) : Type 0 where
   pub held : Held n xs ys side

@@ -9,13 +9,18 @@ use native.Mathlib.Nat.{le-of-suc-le-suc}
 use native.Mathlib.Omega.{arith}
 use lib.ListN.{length, take, replicate}
 use Rattle.placing.specs.declared.choice.Chosen.{Chosen}
+use Rattle.placing.specs.declared.crowding.Crowding.{Crowding}
+use Rattle.placing.specs.declared.side.Between.{Between}
 use Rattle.placing.specs.declared.side.Placed.{Placed}
+use Rattle.placing.specs.declared.units.HalfUnits.{HalfUnits}
 use Rattle.placing.specs.declared.units.Place.{Place}
 use Rattle.placing.specs.declared.units.Side.{Side}
 use Rattle.placing.specs.declared.units.Side.the-variants.{Number, Free}
 use Rattle.placing.specs.rules.Units.{Distinct, freeSide, greatestSide}
 use Rattle.placing.specs.rules.Choice.{cornerAt, Good, First, Before, lower, later, good-one-exists}
 use Rattle.placing.specs.rules.Answer.{Answer, numbered, unbounded, answerOf, firstGood, firstGood-some, firstGood-none, answer-found, answer-free}
+use Rattle.placing.specs.code.Sites.{Held, sitesOf}
+use Rattle.placing.specs.code.Crowding.{judgedFree, CrowdingIs}
 use Rattle.placing.specs.code.Chosen.{whereYes, choiceIn}
 use Rattle.placing.specs.code.Placed.{placedAs}
 
@@ -32,13 +37,26 @@ first-at-one {ps} distinct =
       none-before = λ es good. ones-first (length ps) es (λ i h. good .corners .corner i h .least);
     }
 
--- Side low has a good choice, and these are the first one's corners; side high has none.
-pub record Between (ps : List Place) (n low high : ℕ) (corners : List ℕ) : Type 0 where
-  pub least : 1 ≤ low
-  pub apart : low < high
-  pub most : high ≤ freeSide
-  pub first : First low ps (take n corners)
-  pub no-good : (es : List ℕ) → Good high ps es → ⊥
+-- The lower side has a good choice, and these are the first one's corners; the upper side has none.
+pub record BetweenIs (ps : List Place) (n : ℕ) (between : Between) : Type 0 where
+  pub least : 1 ≤ between .low .0
+  pub apart : between .low .0 < between .high .0
+  pub most : between .high .0 ≤ freeSide
+  pub first : First (between .low .0) ps (take n (between .corners))
+  pub no-good : (es : List ℕ) → Good (between .high .0) ps es → ⊥
+
+-- Halving what lies between two sides that are more than one apart.
+pub record MayHalve (n : ℕ) (xs ys : List ℕ) (crowding : Crowding) (between : Between) (marks : List ℕ) : Type 0 where
+  pub held : Held n xs ys judgedFree
+  pub room : n ≤ length marks
+  pub crowding-is : CrowdingIs (sitesOf n xs ys) n crowding
+  pub between-is : BetweenIs (sitesOf n xs ys) n between
+  pub wide : between .low .0 + 1 < between .high .0
+
+-- What lies between is less than before.
+pub record Halved (ps : List Place) (n : ℕ) (before after : Between) : Type 0 where
+  pub between-is : BetweenIs ps n after
+  pub less : after .high .0 - after .low .0 < before .high .0 - before .low .0
 
 take-replicate : (n k : ℕ) → n ≤ k → _≡_ {A = List ℕ} (take n (replicate k 1)) (replicate n 1)
 take-replicate zero k h = refl
@@ -47,7 +65,7 @@ take-replicate (suc n) (suc k) h = ap (λ (l : List ℕ). 1 ∷ l) (take-replica
 
 -- Where free is out, the search starts with sides 1 and 20,001.
 pub between-starts : {ps : List Place} {n : ℕ} → Distinct ps → length ps ≡ n → n ≤ 240 → firstGood freeSide ps ≡ none
-    → Between ps n 1 freeSide (replicate 240 1)
+    → BetweenIs ps n (record { low = record { 0 = 1 }; high = record { 0 = freeSide }; corners = replicate 240 1 })
 between-starts {ps} {n} distinct count few not-free =
     record {
       least = omega arith;
@@ -57,28 +75,37 @@ between-starts {ps} {n} distinct count few not-free =
       no-good = firstGood-none not-free;
     }
 
-module _ {ps : List Place} {n low high : ℕ} {corners : List ℕ} (between : Between ps n low high corners)
-    (middle : ℕ) (above : low < middle) (below : middle < high) (chosen : Chosen) (is : choiceIn n chosen ≡ firstGood middle ps) where
+module _ {ps : List Place} {n : ℕ} {between : Between} (is-between : BetweenIs ps n between)
+    (middle : HalfUnits) (above : between .low .0 < middle .0) (below : middle .0 < between .high .0)
+    (chosen : Chosen) (is : choiceIn n chosen ≡ firstGood (middle .0) ps) where
   -- The middle has a good choice: it is the next lower end.
-  pub between-up : chosen .ok ≡ true → Between ps n middle high (chosen .corners)
-  between-up ok =
+  pub halved-up : chosen .ok ≡ true
+      → Halved ps n between (record { low = middle; high = between .high; corners = chosen .corners })
+  halved-up ok =
       record {
-        least = omega (arith, between .least);
-        apart = below;
-        most = between .most;
-        first = firstGood-some (sym is ∙ ap (λ (b : Bool). whereYes b (take n (chosen .corners))) ok);
-        no-good = between .no-good;
+        between-is = record {
+          least = omega (arith, is-between .least);
+          apart = below;
+          most = is-between .most;
+          first = firstGood-some (sym is ∙ ap (λ (b : Bool). whereYes b (take n (chosen .corners))) ok);
+          no-good = is-between .no-good;
+        };
+        less = omega arith;
       }
 
   -- It has none: it is the next upper end.
-  pub between-down : chosen .ok ≡ false → Between ps n low middle corners
-  between-down failed =
+  pub halved-down : chosen .ok ≡ false
+      → Halved ps n between (record { low = between .low; high = middle; corners = between .corners })
+  halved-down failed =
       record {
-        least = between .least;
-        apart = above;
-        most = omega (arith, between .most);
-        first = between .first;
-        no-good = firstGood-none (sym is ∙ ap (λ (b : Bool). whereYes b (take n (chosen .corners))) failed);
+        between-is = record {
+          least = is-between .least;
+          apart = above;
+          most = omega (arith, is-between .most);
+          first = is-between .first;
+          no-good = firstGood-none (sym is ∙ ap (λ (b : Bool). whereYes b (take n (chosen .corners))) failed);
+        };
+        less = omega arith;
       }
 
 -- The record of an answer whose n corners are these.
@@ -88,16 +115,16 @@ placed-corners : {side : Side} {ps : List Place} {h : ℕ} (n : ℕ) (corners : 
 placed-corners n corners count first = rw (first .good .corners .one-each, count)
 
 -- Where the ends are one apart, the lower one is the answer.
-pub between-ends : {ps : List Place} {n low high : ℕ} {corners : List ℕ} → Distinct ps → length ps ≡ n
-    → Between ps n low high corners → high ≤ low + 1
-    → _≡_ {A = Placed} (record { side = Number (record { 0 = low }); corners = take n corners ++ replicate (240 - n) 0 })
+pub between-ends : {ps : List Place} {n : ℕ} {between : Between} → Distinct ps → length ps ≡ n
+    → BetweenIs ps n between → between .high .0 ≤ between .low .0 + 1
+    → _≡_ {A = Placed} (record { side = Number (between .low); corners = take n (between .corners) ++ replicate (240 - n) 0 })
     (placedAs (answerOf ps))
-between-ends {ps} {n} {low} {high} {corners} distinct count between end =
-    placed-corners n corners count (between .first)
-    ∙ ap placedAs (sym (answer-found distinct (between .least) (omega (arith, between .most, between .apart)) (between .first) next))
+between-ends {ps} {n} {between} distinct count is-between end =
+    placed-corners n (between .corners) count (is-between .first)
+    ∙ ap placedAs (sym (answer-found distinct (is-between .least) (omega (arith, is-between .most, is-between .apart)) (is-between .first) next))
   where
-    next : (es : List ℕ) → Good (suc low) ps es → ⊥
-    next = let last : high ≡ suc low = omega (arith, between .apart) in rw last at (between .no-good)
+    next : (es : List ℕ) → Good (suc (between .low .0)) ps es → ⊥
+    next = let last : between .high .0 ≡ suc (between .low .0) = omega (arith, is-between .apart) in rw last at (is-between .no-good)
 
 -- Where 20,001 has a good choice, the answer is free.
 pub free-placed : {ps : List Place} (n : ℕ) (chosen : Chosen) → Distinct ps → length ps ≡ n

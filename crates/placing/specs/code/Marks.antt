@@ -15,7 +15,7 @@ use lib.Dec.{eqb}
 use lib.ListN.{length, getD, set, drop, length-set}
 use lib.Seq.{getD-set-same, getD-set-other, drop-set-lt, drop-drop}
 use Rattle.placing.specs.rules.Choice.{cornerAt}
-use Rattle.placing.specs.code.Ways.{FirstWaiting, Kept, Marked}
+use Rattle.placing.specs.code.Ways.{Waits, FirstWaiting, Kept, markOf, Marked}
 
 -- Of the sites below k every decided one is marked.
 pub record NoneWaits (decided marks : List ℕ) (k : ℕ) : Type 0 where
@@ -82,34 +82,27 @@ kept-further {n} {table} {later} m h kept =
 pub none-waits-start : {decided marks : List ℕ} → NoneWaits decided marks 0
 none-waits-start = record { none-waits = λ j h. absurd (not-suc-le-zero h) }
 
--- A site that is marked does not wait ..
-pub none-waits-marked : {decided marks : List ℕ} {k : ℕ} → NoneWaits decided marks k → getD marks k 0 ≡ 1
+-- The next site does not wait either.
+pub none-waits-on : {decided marks : List ℕ} {k : ℕ} → NoneWaits decided marks k → (Waits decided marks k → ⊥)
     → NoneWaits decided marks (k + 1)
-none-waits-marked so-far mark = record { none-waits = below-more _ _ (so-far .none-waits) (λ d. mark) }
-
--- .. nor one that is not decided.
-pub none-waits-undecided : {decided marks : List ℕ} {k : ℕ} → NoneWaits decided marks k → cornerAt decided k ≡ 0
-    → NoneWaits decided marks (k + 1)
-none-waits-undecided so-far undecided = record { none-waits = below-more _ _ (so-far .none-waits) (λ d. absurd (d undecided)) }
+none-waits-on {decided} {marks} {k} so-far next =
+    record { none-waits = below-more _ _ (so-far .none-waits) (λ d. from (ℕ-discrete (getD marks k 0) 1) d) }
+  where
+    from : Dec (getD marks k 0 ≡ 1) → cornerAt decided k ≢ 0 → getD marks k 0 ≡ 1
+    from (yes mark) d = mark
+    from (no none) d = absurd (next (record { is-decided = d; unmarked = none }))
 
 -- The search ends at a site that waits ..
-pub waiting-found : {decided marks : List ℕ} {n k : ℕ} → k < n → cornerAt decided k ≢ 0 → getD marks k 0 ≢ 1
+pub waiting-found : {decided marks : List ℕ} {n k : ℕ} → k < n → Waits decided marks k
     → FirstWaiting decided marks n k
-waiting-found h is-decided unmarked =
-    record {
-      at-most = omega arith;
-      found-decided = λ l. is-decided;
-      found-unmarked = λ l. unmarked;
-      none-waits = λ e. absurd (omega arith);
-    }
+waiting-found h waits = record { at-most = omega arith; found = λ l. waits; none-waits = λ e. absurd (omega arith) }
 
 -- .. or past the last site.
-pub waiting-none : {decided marks : List ℕ} {n k : ℕ} → k ≤ n → n ≤ k → NoneWaits decided marks k → FirstWaiting decided marks n k
-waiting-none most least so-far =
+pub waiting-none : {decided marks : List ℕ} {n k : ℕ} → n ≤ k → NoneWaits decided marks k → FirstWaiting decided marks n n
+waiting-none least so-far =
     record {
-      at-most = most;
-      found-decided = λ l. absurd (omega arith);
-      found-unmarked = λ l. absurd (omega arith);
+      at-most = omega arith;
+      found = λ l. absurd (omega arith);
       none-waits = λ e j h. so-far .none-waits j (omega arith);
     }
 
@@ -121,14 +114,25 @@ marking-starts =
       kept = kept-same;
     }
 
--- Marking goes on with a byte that is a mark exactly where the site is decided.
-pub marking-on : {decided table marks : List ℕ} {n j : ℕ} (v : ℕ) → j < n → n ≤ length marks → Marking decided n table marks j
-    → (cornerAt decided j ≢ 0 → v ≡ 1) → (cornerAt decided j ≡ 0 → v ≢ 1) → Marking decided n table (set marks j v) (j + 1)
-marking-on {decided} {table} {marks} {n} {j} v h room so-far is-mark no-mark =
+-- A decided site's mark is 1.
+pub mark-decided : (c : ℕ) → c ≢ 0 → markOf c ≡ 1
+mark-decided zero d = absurd (d refl)
+mark-decided (suc c) d = refl
+
+-- An undecided one's is not.
+mark-undecided : (c : ℕ) → c ≡ 0 → markOf c ≢ 1
+mark-undecided zero u m = omega arith
+mark-undecided (suc c) u m = omega arith
+
+-- Marking goes on with the mark of the next site.
+pub marking-on : {decided table marks : List ℕ} {n j v : ℕ} → j < n → n ≤ length marks → Marking decided n table marks j
+    → v ≡ markOf (cornerAt decided j) → Marking decided n table (set marks j v) (j + 1)
+marking-on {decided} {table} {marks} {n} {j} {v} h room so-far is =
     record {
       marked = record {
-        marked = below-more _ j (λ k l d. kept-at k l ∙ so-far .marked .marked k l d) (λ d. written ∙ is-mark d);
-        unmarked = below-more _ j (λ k l u m. so-far .marked .unmarked k l u (sym (kept-at k l) ∙ m)) (λ u m. no-mark u (sym written ∙ m));
+        marked = below-more _ j (λ k l d. kept-at k l ∙ so-far .marked .marked k l d) (λ d. written ∙ is ∙ mark-decided _ d);
+        unmarked = below-more _ j (λ k l u m. so-far .marked .unmarked k l u (sym (kept-at k l) ∙ m))
+            (λ u m. mark-undecided _ u (sym (written ∙ is) ∙ m));
       };
       kept = kept-set v h (so-far .kept);
     }

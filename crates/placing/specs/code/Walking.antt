@@ -1,7 +1,7 @@
 -- One site of the walk: its corners are tried from the lowest up, until a trial does not fail.
 -- Assumes nothing.
 use mathlib.Core.Path.{_≡_, refl, sym, _∙_, ap, subst}
-use mathlib.Core.Bool.{Bool, true, false}
+use mathlib.Core.Bool.{Bool, true, false, true≢false}
 use mathlib.Core.List.{List}
 use mathlib.Core.Logic.{_≢_}
 use Prim.Native.Nat.{ℕ, zero, suc, _+_, _*_, _≤_, _<_}
@@ -44,10 +44,16 @@ refused-more {P} {ways} {i} e before next = record { refused = λ c h. from c h 
     from c h (yes k) = before .refused c k
     from c h (no k) = let last : c ≡ e + 1 = omega arith in rw last next
 
--- A corner whose byte is not 1 is refused.
-pub refused-byte : {P : Problem} {ways : List ℕ} {i : ℕ} (e : ℕ) → i < P .n → e < 4 → getD ways (4 * i + e) 0 ≢ 1 → RefusedUpTo P ways i e → RefusedUpTo P ways i (e + 1)
-refused-byte {P} {ways} {i} e listed h shut before =
-    refused-more e before (refused-closed listed (λ o. shut (sym (row-next ways i e h) ∙ o)))
+-- A corner whose byte is not 1 fails without a trial.
+pub tried-shut : {P : Problem} {ways decided : List ℕ} {i : ℕ} (e : ℕ) → Sizes ways decided → i < P .n → e < 4
+    → getD ways (4 * i + e) 0 ≢ 1 → Tried P ways decided i (e + 1) false ways decided
+tried-shut {P} {ways} {decided} {i} e sizes listed h shut =
+    record {
+      sizes = sizes;
+      closed = λ o. absurd (true≢false (sym o));
+      onward = λ o. absurd (true≢false (sym o));
+      refused = λ o. refused-closed listed (λ is-open. shut (sym (row-next ways i e h) ∙ is-open));
+    }
 
 -- The first corner whose trial does not fail is taken.
 pub takes-corner : {P : Problem} {ways decided ways′ decided′ : List ℕ} {i : ℕ} (e : ℕ) {ok : Bool} → Walked P i (rowOf ways) (cornerAt decided)

@@ -157,17 +157,26 @@ pub record CarriedOut (P : Problem) (ways decided : List ℕ) (k : ℕ) (ok : Bo
   pub carried : ok ≡ true → Carried P (rowOf ways) (cornerAt decided) k (rowOf ways′) (cornerAt decided′)
   pub stuck : ok ≡ false → Stuck P (rowOf ways) (cornerAt decided) k
 
--- The first decided site that is not marked, or n.
+-- Site k waits: it is decided, and that has not been carried out.
+pub record Waits (decided marks : List ℕ) (k : ℕ) : Type 0 where
+  pub is-decided : cornerAt decided k ≢ 0
+  pub unmarked : getD marks k 0 ≢ 1
+
+-- The first site that waits, or n.
 pub record FirstWaiting (decided marks : List ℕ) (n k : ℕ) : Type 0 where
   pub at-most : k ≤ n
-  pub found-decided : k < n → cornerAt decided k ≢ 0
-  pub found-unmarked : k < n → getD marks k 0 ≢ 1
+  pub found : k < n → Waits decided marks k
   pub none-waits : k ≡ n → (j : ℕ) → j < n → cornerAt decided j ≢ 0 → getD marks j 0 ≡ 1
 
 -- The bytes of a lent table from n on are as they were, and so is its length.
 pub record Kept (n : ℕ) (table table′ : List ℕ) : Type 0 where
   pub size : length table′ ≡ length table
   pub rest : drop n table′ ≡ drop n table
+
+-- The mark of a site by its decided corner: 1 where it has one.
+abbrev pub markOf : ℕ → ℕ
+markOf zero = 0
+markOf (suc c) = 1
 
 -- Exactly the decided sites are marked.
 pub record Marked (decided : List ℕ) (n : ℕ) (marks : List ℕ) : Type 0 where

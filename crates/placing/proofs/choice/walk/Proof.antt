@@ -32,16 +32,17 @@ element-copy-out-if1 c = search needs
 choose-corner-requires : tie.Need-choose-corner-requires Inv-loop μ-loop
 choose-corner-requires c κs =
     let at-loop = c .before .before .before .before in
-    let may = at-loop .before .before .pre in (
-      record {
+    let may = at-loop .before .before .pre in
+    record {
+      walking = record {
         held = may .held;
         sizes = at-loop .loop .inv .2;
         room = rw (at-loop .loop .inv .1 .size) (may .room);
         walked = at-loop .loop .inv .3;
-      },
-      omega arith,
-      c .before .if1 .taken,
-    )
+      };
+      listed = omega arith;
+      undecided = c .before .if1 .taken;
+    }
 
 same-length : tie.Need-same-length Inv-loop μ-loop
 same-length c = search needs

@@ -1,12 +1,11 @@
 -- `placing::trial::carry_on` meets its contract. The loop's invariant: the marked decisions have been carried out since the entry.
 -- The measure is how many sites have no mark. Assumes nothing.
-use mathlib.Core.Logic.{_≢_}
 use Prim.Native.Nat.{_<_}
 use native.Mathlib.Nat.{lt-of-lt-of-le}
 use native.Mathlib.Omega.{arith}
 use borrow.Author.Tests.{not-true, not-false}
-use Rattle.placing.specs.rules.Choice.{cornerAt}
 use Rattle.placing.specs.search.Labels.{labels}
+use Rattle.placing.specs.code.Ways.{Waits}
 use Rattle.placing.specs.code.Marks.{unmarkedBelow, mark-fewer, kept-set}
 use Rattle.placing.specs.code.Onward.{CarryingOn, carrying-starts, carrying-settled, carrying-corner, carrying-ends, carrying-on, carrying-stuck}
 use Rattle.placing.proofs.trial.carry_on.Statement.{statement}
@@ -43,50 +42,56 @@ found c =
     let most = c .before .first-waiting .ensures .at-most in
     omega arith
 
--- It is decided.
-found-decided : (c : tie.Else1 Inv-loop μ-loop)
-    → cornerAt (c .before .before .before .before .loop .decided) (c .before .first-waiting .result) ≢ 0
-found-decided c = c .before .first-waiting .ensures .found-decided (found c)
+-- It waits.
+found-waits : (c : tie.Else1 Inv-loop μ-loop)
+    → let at-loop = c .before .before .before .before in Waits (at-loop .loop .decided) (at-loop .loop .marks) (c .before .first-waiting .result)
+found-waits c = c .before .first-waiting .ensures .found (found c)
 
-slice-write-marks : tie.Need-slice-write-marks Inv-loop μ-loop
-slice-write-marks c = lt-of-lt-of-le (found c) (c .before .before .before .before .loop .inv .room)
-
-carry-out-requires : tie.Need-carry-out-requires Inv-loop μ-loop
-carry-out-requires c κs =
-    let turn = c .before .before in
+mark-and-carry-requires : tie.Need-mark-and-carry-requires Inv-loop μ-loop
+mark-and-carry-requires c κs =
+    let turn = c .before .before .before in
     let at-loop = turn .before .before .before .before in
-    let so-far = at-loop .loop .inv in
-    record {
-      held = at-loop .before .before .pre .held;
-      sizes = so-far .sizes;
-      listed = found turn;
-      corner = carrying-corner so-far (found turn) (found-decided turn);
-      settled = carrying-settled so-far;
-    }
+    let so-far = at-loop .loop .inv in (
+      record {
+        held = at-loop .before .before .pre .held;
+        sizes = so-far .sizes;
+        listed = found turn;
+        corner = carrying-corner so-far (found turn) (found-waits turn .is-decided);
+        settled = carrying-settled so-far;
+      },
+      so-far .room,
+    )
 
 same-length-2 : tie.Need-same-length-2 Inv-loop μ-loop
 same-length-2 c =
-    let turn = c .before .before .before .before in
-    kept-set 1 (found turn) (turn .before .before .before .before .loop .inv .kept) .size
+    let call = c .before .before .before in
+    let turn = call .before .before .before .before in
+    rw (call .mark-and-carry .ensures .1) (kept-set 1 (found turn) (turn .before .before .before .before .loop .inv .kept) .size)
 
 returns-2 : tie.Need-returns-2 Inv-loop μ-loop
 returns-2 c =
-    let turn = c .before .before .before .before in
+    let call = c .before .before .before in
+    let turn = call .before .before .before .before in
     let so-far = turn .before .before .before .before .loop .inv in (
-      carrying-stuck so-far (found turn) (found-decided turn) (c .before .carry-out .ensures) (not-true _ (c .if2 .taken)),
-      kept-set 1 (found turn) (so-far .kept),
+      carrying-stuck so-far (found turn) (found-waits turn .is-decided) (call .mark-and-carry .ensures .0) (not-true _ (c .if2 .taken)),
+      rw (call .mark-and-carry .ensures .1) (kept-set 1 (found turn) (so-far .kept)),
     )
 
 loop-less : tie.Need-loop-less Inv-loop μ-loop
 loop-less c =
-    let turn = c .before .before .before .before in
-    mark-fewer _ _ (found turn) (slice-write-marks turn) (turn .before .first-waiting .ensures .found-unmarked (found turn))
+    let call = c .before .before .before in
+    let turn = call .before .before .before .before in
+    let so-far = turn .before .before .before .before .loop .inv in
+    rw (call .mark-and-carry .ensures .1)
+    (mark-fewer _ _ (found turn) (lt-of-lt-of-le (found turn) (so-far .room)) (found-waits turn .unmarked))
 
 loop-again : tie.Need-loop-again Inv-loop μ-loop
 loop-again c =
-    let turn = c .before .before .before .before in
+    let call = c .before .before .before in
+    let turn = call .before .before .before .before in
     let so-far = turn .before .before .before .before .loop .inv in
-    carrying-on so-far (found turn) (found-decided turn) (c .before .carry-out .ensures) (not-false _ (c .if2 .left))
+    rw (call .mark-and-carry .ensures .1)
+    (carrying-on so-far (found turn) (found-waits turn .is-decided) (call .mark-and-carry .ensures .0) (not-false _ (c .if2 .left)))
 
 pub carry-on-spec : {M : Type 1} → statement M
 carry-on-spec =
@@ -98,8 +103,7 @@ carry-on-spec =
     first-waiting-requires
     same-length
     returns
-    slice-write-marks
-    carry-out-requires
+    mark-and-carry-requires
     same-length-2
     returns-2
     loop-less

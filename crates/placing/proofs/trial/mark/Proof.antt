@@ -2,8 +2,7 @@
 -- Assumes nothing.
 use Prim.Native.Nat.{_≤_, _-_}
 use native.Mathlib.Omega.{arith}
-use mathlib.Core.Path.{refl}
-use mathlib.Core.Logic.{⊎-elim}
+use borrow.Author.Needs.{needs}
 use Rattle.placing.specs.code.Marks.{Marking, marking-starts, marking-on, marking-ends}
 use Rattle.placing.proofs.trial.mark.Statement.{statement}
 use Rattle.placing.proofs.trial.mark.Tie as tie
@@ -17,14 +16,14 @@ abbrev μ-loop : tie.MeasureT-loop
 loop-holds : tie.Need-loop-holds Inv-loop μ-loop
 loop-holds c = (omega arith, marking-starts)
 
-element-copy-out-if1 : tie.Need-element-copy-out-if1 Inv-loop μ-loop
-element-copy-out-if1 c = omega arith
+element-copy-out-mark-of : tie.Need-element-copy-out-mark-of Inv-loop μ-loop
+element-copy-out-mark-of c = omega arith
+
+mark-of-requires : tie.Need-mark-of-requires Inv-loop μ-loop
+mark-of-requires c κs = search needs
 
 slice-write-marks : tie.Need-slice-write-marks Inv-loop μ-loop
 slice-write-marks c = omega arith
-
-slice-write-marks-2 : tie.Need-slice-write-marks-2 Inv-loop μ-loop
-slice-write-marks-2 c = omega arith
 
 add-j : tie.Need-add-j Inv-loop μ-loop
 add-j c = omega arith
@@ -35,14 +34,7 @@ loop-less c = omega arith
 loop-again : tie.Need-loop-again Inv-loop μ-loop
 loop-again c =
     let turn = c .before .before in
-    let below = turn .loop-test .taken in
-    let so-far = turn .before .loop .inv .1 in (
-      omega arith,
-      ⊎-elim
-          (λ w. rw (w .1) (marking-on 0 below (omega arith) so-far (λ d. absurd (d (w .0 .taken))) (λ u. omega arith)))
-          (λ w. rw (w .1) (marking-on 1 below (omega arith) so-far (λ d. refl) (λ u. absurd (w .0 .left u))))
-          (c .if1 .came),
-    )
+    (omega arith, marking-on (turn .loop-test .taken) (omega arith) (turn .before .loop .inv .1) (c .mark-of .ensures))
 
 same-length : tie.Need-same-length Inv-loop μ-loop
 same-length c = omega arith
@@ -59,9 +51,9 @@ mark-spec =
     Inv-loop
     μ-loop
     loop-holds
-    element-copy-out-if1
+    element-copy-out-mark-of
+    mark-of-requires
     slice-write-marks
-    slice-write-marks-2
     add-j
     loop-less
     loop-again

@@ -1,6 +1,7 @@
 // How far each corner reaches before it is crowded. This does not depend on the side that is tried, so it is found once for a
 // list.
 use crate::geometry::doubled_covers;
+use crate::sites::place_at;
 use crate::units::HalfUnits;
 use crate::units::Limits;
 use crate::units::Place;
@@ -9,7 +10,7 @@ ghost use mathlib.Core.Path.{_≡_};
 ghost use Prim.Native.Nat.{_<_, max};
 ghost use Rattle.placing.specs.rules.Units.{OnPlan, dist};
 ghost use Rattle.placing.specs.rules.Corner.{Corner};
-ghost use Rattle.placing.specs.code.Sites.{Held, HasPlace, placeAt, sitesOf};
+ghost use Rattle.placing.specs.code.Sites.{Held, sitesOf};
 ghost use Rattle.placing.specs.code.Crowding.{apart, Lowered, Nearer, Passed, SiteReaches, CrowdingIs, judgedFree};
 
 // The reaches of the four corners of a site: a doubled label covers another site where its side is above the corner's reach.
@@ -79,17 +80,6 @@ fn nearer(reaches: Reaches, s: Place, t: Place) -> Reaches
         second: lowered(reaches.second, away, s, 2, t),
         third: lowered(reaches.third, away, s, 3, t),
         fourth: lowered(reaches.fourth, away, s, 4, t),
-    }
-}
-
-// The place of site `i`.
-fn place_at(xs: &[u32; Limits::SITES], ys: &[u32; Limits::SITES], i: usize) -> Place
-    requires { ⌜ HasPlace (now xs) (now ys) i ⌝ }
-    ensures { λ r. ⌜ r ≡ placeAt (now (xs .entry)) (now (ys .entry)) i ⌝ }
-{
-    Place {
-        x: Units(xs[i]),
-        y: Units(ys[i]),
     }
 }
 

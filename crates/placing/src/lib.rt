@@ -6,5 +6,6 @@ pub mod fresh;
 pub mod geometry;
 pub mod place;
 pub mod side;
+pub mod sites;
 pub mod trial;
 pub mod units;

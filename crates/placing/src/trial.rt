@@ -3,10 +3,9 @@
 // of the lent table marks a site whose decision has been carried out. Inside a trial the arrays are lent, since handing them
 // on by value costs more than all the tests.
 use crate::geometry::meet;
+use crate::sites::place_at;
 use crate::units::HalfUnits;
 use crate::units::Limits;
-use crate::units::Place;
-use crate::units::Units;
 ghost use mathlib.Core.Path.{_≡_};
 ghost use Prim.Native.Nat.{ℕ, _≤_, _<_};
 ghost use lib.ListN.{length, set};
@@ -113,14 +112,8 @@ fn carry_to(
 {
     let e = 4 * j + (c as usize - 1);
     if ways[e] == 1 {
-        let s = Place {
-            x: Units(xs[k]),
-            y: Units(ys[k]),
-        };
-        let t = Place {
-            x: Units(xs[j]),
-            y: Units(ys[j]),
-        };
+        let s = place_at(xs, ys, k);
+        let t = place_at(xs, ys, j);
         if meet(side, s, c, t, c) {
             return close_corner(ways, decided, j, c);
         }

@@ -7,10 +7,10 @@ use Prim.Native.Nat.{ℕ, _≤_, _<_}
 use lib.ListN.{length, getD}
 use Rattle.placing.specs.declared.units.HalfUnits.{HalfUnits}
 use Rattle.placing.specs.declared.crowding.Crowding.{Crowding}
-use Rattle.placing.specs.rules.Units.{mostSites, OnPlan, Judged}
+use Rattle.placing.specs.rules.Units.{Judged}
 use Rattle.placing.specs.rules.Corner.{Corner}
 use Rattle.placing.specs.rules.Choice.{cornerAt}
-use Rattle.placing.specs.code.Sites.{Held, placeAt, sitesOf}
+use Rattle.placing.specs.code.Sites.{Held, HasPlace, sitesOf}
 use Rattle.placing.specs.code.Crowding.{CrowdingIs}
 use Rattle.placing.specs.search.State.{Underway, Closed, Walked}
 use Rattle.placing.specs.search.Labels.{labels}
@@ -19,12 +19,8 @@ use Rattle.placing.specs.code.Ways.{rowOf, Sizes, Settled, AllSettled}
 -- Carrying the decision c of site k to another site j.
 pub record MayCarryTo (xs ys : List ℕ) (side : HalfUnits) (ways decided : List ℕ) (k c j : ℕ) : Type 0 where
   pub judged : Judged side
-  pub x-size : length xs ≡ mostSites
-  pub y-size : length ys ≡ mostSites
-  pub from-plan : OnPlan (placeAt xs ys k)
-  pub to-plan : OnPlan (placeAt xs ys j)
-  pub from-listed : k < mostSites
-  pub to-listed : j < mostSites
+  pub from : HasPlace xs ys k
+  pub to : HasPlace xs ys j
   pub different : j ≢ k
   pub sizes : Sizes ways decided
   pub corner : Corner c

@@ -13,7 +13,7 @@ use Rattle.placing.specs.declared.units.HalfUnits.{HalfUnits}
 use Rattle.placing.specs.rules.Corner.{Corner}
 use Rattle.placing.specs.rules.Units.{mostSites, OnPlan}
 use Rattle.placing.specs.rules.Meet.{Meet}
-use Rattle.placing.specs.code.Sites.{placeAt}
+use Rattle.placing.specs.code.Sites.{placeAt, held-place}
 use Rattle.placing.specs.rules.Choice.{cornerAt}
 use Rattle.placing.specs.search.Problem.{Problem}
 use Rattle.placing.specs.search.State.{TwoOpen, CarriedTo}
@@ -392,18 +392,11 @@ may-carry-to {n} {xs} {ys} {k} {j} may below listed different =
     let same = below .later j (omega arith) in
     record {
       judged = record { judged = may .held .judged };
-      x-size = may .held .x-size;
-      y-size = may .held .y-size;
-      from-plan = on-plan k (may .listed);
-      to-plan = on-plan j listed;
-      from-listed = omega arith;
-      to-listed = omega arith;
+      from = held-place (may .held) (may .listed);
+      to = held-place (may .held) listed;
       different = different;
       sizes = below .sizes;
       corner = may .corner;
       is-decided = sym (below .own .decision);
       settled = record { settled = rw (same .row, same .decision) (may .settled .all-settled j listed .settled) };
     }
-  where
-    on-plan : (i : ℕ) → i < n → OnPlan (placeAt xs ys i)
-    on-plan i h = record { on-x = record { range = may .held .x-range i h }; on-y = record { range = may .held .y-range i h } }

@@ -17,47 +17,39 @@ add-e c = search needs
 element-copy-out-if1 : tie.Need-element-copy-out-if1
 element-copy-out-if1 c = search needs
 
-mul-t19 : tie.Need-mul-t19
-mul-t19 c = search needs
+place-at-requires : tie.Need-place-at-requires
+place-at-requires c κs = search needs
 
-element-copy-out-t22 : tie.Need-element-copy-out-t22
-element-copy-out-t22 c = search needs
-
-mul-t24 : tie.Need-mul-t24
-mul-t24 c = search needs
-
-element-copy-out-t27 : tie.Need-element-copy-out-t27
-element-copy-out-t27 c = search needs
-
-mul-t19-2 : tie.Need-mul-t19-2
-mul-t19-2 c = search needs
-
-element-copy-out-t22-2 : tie.Need-element-copy-out-t22-2
-element-copy-out-t22-2 c = search needs
-
-mul-t24-2 : tie.Need-mul-t24-2
-mul-t24-2 c = search needs
-
-element-copy-out-t27-2 : tie.Need-element-copy-out-t27-2
-element-copy-out-t27-2 c = search needs
+place-at-requires-2 : tie.Need-place-at-requires-2
+place-at-requires-2 c κs = search needs
 
 meet-requires : tie.Need-meet-requires
-meet-requires c κs = search needs
+meet-requires c κs =
+    let may = c .before .before .before .before .pre in (
+      rw (c .before .place-at .ensures) (may .from .on-plan),
+      rw (c .place-at2 .ensures) (may .to .on-plan),
+      may .corner,
+      may .corner,
+      may .judged,
+    )
 
 close-corner-requires : tie.Need-close-corner-requires
 close-corner-requires c κs = search needs
 
 returns : tie.Need-returns
 returns c =
-    let start = c .before .before .before .before .before .before .before .before .before .before .before in
     let met = c .before .before .before .before in
-    carried-meeting _ _ _ _ _ _ _ _ (start .pre) _ _ _ (met .before .before .before .before .before .if1 .taken)
-    (met .meet .ensures .yes-holds (c .before .before .before .if2 .taken)) (c .close-corner .ensures)
+    let start = met .before .before .before .before .before in
+    carried-meeting _ _ _ _ _ _ _ _ (start .pre) _ _ _ (met .before .before .before .if1 .taken)
+    (rw (met .before .before .place-at .ensures, met .before .place-at2 .ensures) at (met .meet .ensures .yes-holds (c .before .before .before .if2 .taken)))
+    (c .close-corner .ensures)
 
 returns-2 : tie.Need-returns-2
 returns-2 c =
-    let start = c .before .before .before .before .before .before .before .before in
-    carried-apart _ _ _ _ _ _ _ _ (start .pre) (λ is-open. c .before .meet .ensures .no-fails (c .if2 .left))
+    let met = c .before in
+    let start = met .before .before .before .before .before in
+    carried-apart _ _ _ _ _ _ _ _ (start .pre)
+    (λ is-open. rw (met .before .before .place-at .ensures, met .before .place-at2 .ensures) at (met .meet .ensures .no-fails (c .if2 .left)))
 
 returns-3 : tie.Need-returns-3
 returns-3 c =
@@ -71,14 +63,8 @@ carry-to-spec =
     sub-e
     add-e
     element-copy-out-if1
-    mul-t19
-    element-copy-out-t22
-    mul-t24
-    element-copy-out-t27
-    mul-t19-2
-    element-copy-out-t22-2
-    mul-t24-2
-    element-copy-out-t27-2
+    place-at-requires
+    place-at-requires-2
     meet-requires
     close-corner-requires
     returns

@@ -15,7 +15,7 @@ use lib.ListN.{length, take}
 use lib.Seq.{getD-take, length-take-le}
 use Rattle.placing.specs.declared.units.Place.{Place}
 use Rattle.placing.specs.rules.Units.{yOf, Same, Distinct, InRange, OnPlan, siteAt, nowhere}
-use Rattle.placing.specs.code.Placed.{MayPlace}
+use Rattle.placing.specs.rules.Placing.{MayPlace}
 
 -- A yes means that P holds.
 pub record Where (yes : Bool) (P : Type 0) : Type 0 where

@@ -8,3 +8,4 @@ pub mod Crowd
 pub mod Choice
 pub mod Enumerate
 pub mod Answer
+pub mod Placing

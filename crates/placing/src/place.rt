@@ -1,35 +1,15 @@
 // Placing a list of places.
 use crate::side::Placed;
 use crate::side::find_answer;
+use crate::sites::coordinates_of;
 use crate::units::Limits;
 use crate::units::Place;
 ghost use mathlib.Core.Path.{_≡_};
 ghost use mathlib.Core.List.{_++_};
 ghost use Prim.Native.Nat.{_*_, _≤_};
 ghost use lib.ListN.{length, take, drop, replicate};
-ghost use Rattle.placing.specs.rules.Units.{mostSites};
 ghost use Rattle.placing.specs.rules.Answer.{answerOf};
-ghost use Rattle.placing.specs.code.Placed.{placedAs, MayPlace, CoordinatesOf};
-
-// The places of a list, an array for each axis: a trial reads single numbers.
-pub(crate) struct Coordinates {
-    pub xs: [u32; Limits::SITES],
-    pub ys: [u32; Limits::SITES],
-}
-
-fn coordinates_of(sites: [Place; Limits::SITES], n: usize) -> Coordinates
-    requires { ⌜ n ≤ mostSites ⌝ }
-    ensures { λ r. ⌜ CoordinatesOf n sites (r .xs) (r .ys) ⌝ }
-{
-    let mut xs = [0u32; Limits::SITES];
-    let mut ys = [0u32; Limits::SITES];
-    for i in 0..n {
-        let s = sites[i];
-        xs[i] = s.x.0;
-        ys[i] = s.y.0;
-    }
-    Coordinates { xs, ys }
-}
+ghost use Rattle.placing.specs.rules.Placing.{placedAs, MayPlace};
 
 // Zeroes the first `m` bytes of a table.
 fn clear(table: &mut [u8], m: usize)

@@ -12,7 +12,8 @@ ghost use lib.ListN.{take, replicate};
 ghost use Rattle.placing.specs.rules.Answer.{answerOf};
 ghost use Rattle.placing.specs.code.Sites.{sitesOf};
 ghost use Rattle.placing.specs.code.Ways.{Kept};
-ghost use Rattle.placing.specs.code.Placed.{placedAs, MayFind, MayBisect};
+ghost use Rattle.placing.specs.rules.Placing.{placedAs};
+ghost use Rattle.placing.specs.code.Placed.{MayFind, MayBisect};
 ghost use Rattle.placing.specs.code.Bisect.{MayHalve, Halved};
 
 // The placed answer: the side, and the corner of each site in list order, 0 past the last.

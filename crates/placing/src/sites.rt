@@ -3,7 +3,29 @@ use crate::units::Limits;
 use crate::units::Place;
 use crate::units::Units;
 ghost use mathlib.Core.Path.{_≡_};
-ghost use Rattle.placing.specs.code.Sites.{HasPlace, placeAt};
+ghost use Prim.Native.Nat.{_≤_};
+ghost use Rattle.placing.specs.rules.Units.{mostSites};
+ghost use Rattle.placing.specs.code.Sites.{HasPlace, CoordinatesOf, placeAt};
+
+// The places of a list.
+pub(crate) struct Coordinates {
+    pub xs: [u32; Limits::SITES],
+    pub ys: [u32; Limits::SITES],
+}
+
+pub(crate) fn coordinates_of(sites: [Place; Limits::SITES], n: usize) -> Coordinates
+    requires { ⌜ n ≤ mostSites ⌝ }
+    ensures { λ r. ⌜ CoordinatesOf n sites (r .xs) (r .ys) ⌝ }
+{
+    let mut xs = [0u32; Limits::SITES];
+    let mut ys = [0u32; Limits::SITES];
+    for i in 0..n {
+        let s = sites[i];
+        xs[i] = s.x.0;
+        ys[i] = s.y.0;
+    }
+    Coordinates { xs, ys }
+}
 
 // The place of site `i`.
 pub(crate) fn place_at(xs: &[u32; Limits::SITES], ys: &[u32; Limits::SITES], i: usize) -> Place

@@ -22,7 +22,7 @@ use Rattle.placing.specs.rules.Answer.{Answer, numbered, unbounded, answ
 use Rattle.placing.specs.code.Sites.{Held, sitesOf}
 use Rattle.placing.specs.code.Crowding.{judgedFree, CrowdingIs}
 use Rattle.placing.specs.code.Chosen.{whereYes, choiceIn}
-use Rattle.placing.specs.code.Placed.{placedAs}
+use Rattle.placing.specs.rules.Placing.{placedAs}
 
 -- No list of corners comes before the one that has corner 1 everywhere.
 ones-first : (n : ℕ) (es : List ℕ) → ((i : ℕ) → i < n → 1 ≤ cornerAt es i) → Before es (replicate n 1) → ⊥

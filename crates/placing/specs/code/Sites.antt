@@ -5,7 +5,7 @@ use mathlib.Core.List.{List, [], _∷_}
 use Prim.Native.Nat.{ℕ, zero, suc, _≤_, _<_}
 use native.Mathlib.Nat.{le-of-suc-le-suc, not-suc-le-zero}
 use native.Mathlib.Omega.{arith}
-use lib.ListN.{length, getD}
+use lib.ListN.{length, getD, take}
 use Rattle.placing.specs.declared.units.HalfUnits.{HalfUnits}
 use Rattle.placing.specs.declared.units.Place.{Place}
 use Rattle.placing.specs.rules.Units.{mostSites, greatestCoordinate, freeSide, nowhere, siteAt, OnPlan}
@@ -79,3 +79,9 @@ held-place {n} {i} held listed =
       inside = omega (arith, held .few);
       on-plan = record { on-x = record { range = held .x-range i listed }; on-y = record { range = held .y-range i listed } };
     }
+
+-- Two lists of coordinates of the first n sites.
+pub record CoordinatesOf (n : ℕ) (sites : List Place) (xs ys : List ℕ) : Type 0 where
+  pub x-size : length xs ≡ mostSites
+  pub y-size : length ys ≡ mostSites
+  pub same-sites : sitesOf n xs ys ≡ take n sites

@@ -1,9 +1,11 @@
 -- Document 01, "Units and limits": coordinates are whole units, sides are whole half units.
 -- Assumes nothing.
 use mathlib.Core.Path.{_≡_}
+use mathlib.Core.Bool.{Bool, _&&_}
 use mathlib.Core.List.{List}
 use mathlib.Core.Logic.{_≢_}
 use Prim.Native.Nat.{ℕ, _+_, _-_, _*_, _≤_, _<_}
+use lib.Dec.{eqb}
 use lib.ListN.{length, getD}
 use Rattle.placing.specs.declared.units.Units.{Units}
 use Rattle.placing.specs.declared.units.HalfUnits.{HalfUnits}
@@ -56,6 +58,10 @@ siteAt ps i = getD ps i nowhere
 pub record Same (s t : Place) : Type 0 where
   pub same-x : xOf s ≡ xOf t
   pub same-y : yOf s ≡ yOf t
+
+-- The test of that.
+abbrev pub samePlace : Place → Place → Bool
+samePlace s t = eqb (xOf s) (xOf t) && eqb (yOf s) (yOf t)
 
 -- "Names are distinct; so are places."
 pub record Distinct (ps : List Place) : Type 0 where

@@ -12,13 +12,12 @@ use lib.ListN.{length}
 use Rattle.placing.specs.declared.units.Place.{Place}
 use Rattle.placing.specs.declared.units.Side.{Side}
 use Rattle.placing.specs.declared.units.Side.the-variants.{Number, Free}
-use Rattle.placing.specs.rules.Units.{siteAt, Distinct, greatestSide, freeSide}
+use Rattle.placing.specs.rules.Units.{siteAt, samePlace, Distinct, greatestSide, freeSide}
 use Rattle.placing.specs.rules.Decides.{Decides, decides-same, decides-no, decides-yes}
 use Rattle.placing.specs.theorems.Decide.{
   le-decides,
   eq-decides,
   both-decide,
-  samePlace,
   same-decides,
   not-decides,
   allBelow,

@@ -14,7 +14,7 @@ use Rattle.placing.specs.declared.units.Place.{Place}
 use Rattle.placing.specs.declared.corner.Direction.{Direction}
 use Rattle.placing.specs.declared.corner.Direction.the-variants.{Up, Down}
 use Rattle.placing.specs.rules.Decides.{Decides, decides-same, decides-second, decides-no, decides-yes, decided}
-use Rattle.placing.specs.rules.Units.{dist, xOf, yOf, siteAt, Same}
+use Rattle.placing.specs.rules.Units.{dist, xOf, yOf, siteAt, Same, samePlace}
 use Rattle.placing.specs.rules.Corner.{Corner, alongX, alongY}
 use Rattle.placing.specs.rules.Meet.{Overlap, Meet}
 use Rattle.placing.specs.rules.Crowd.{Ahead, DoubledCovers, Crowded}
@@ -39,10 +39,7 @@ pub not-decides : {a : Bool} {A : Type 0} → Decides a A → Decides (not a) (A
 not-decides {a = true} d = decides-no (λ n. n (d .yes-holds refl))
 not-decides {a = false} d = decides-yes (d .no-fails refl)
 
--- Two sites stand at the same place.
-abbrev pub samePlace : Place → Place → Bool
-samePlace s t = eqb (xOf s) (xOf t) && eqb (yOf s) (yOf t)
-
+-- The test of the same place.
 pub same-decides : (s t : Place) → Decides (samePlace s t) (Same s t)
 same-decides s t =
     decides-same (λ r. record { same-x = r .0; same-y = r .1 }) (λ r. (r .same-x, r .same-y))

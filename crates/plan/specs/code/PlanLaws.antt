@@ -13,7 +13,7 @@ use Rattle.placing.specs.declared.units.Side.the-variants.{Free}
 use Rattle.placing.specs.rules.Units.{nowhere}
 use Rattle.placing.specs.rules.Choice.{cornerAt}
 use Rattle.placing.specs.rules.Answer.{Answer, answerOf}
-use Rattle.placing.specs.code.Placed.{placedAs, MayPlace}
+use Rattle.placing.specs.rules.Placing.{placedAs, MayPlace}
 use Rattle.plan.specs.declared.name.Name.{Name}
 use Rattle.plan.specs.declared.plan.Plan.{Plan}
 use Rattle.plan.specs.rules.Name.{bytesOf, nameOf, name-short}

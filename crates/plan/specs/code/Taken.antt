@@ -5,7 +5,7 @@ use mathlib.Core.List.{List, [], _∷_}
 use Prim.Native.Nat.{ℕ, _≤_, _<_}
 use lib.ListN.{getD, take}
 use Rattle.placing.specs.declared.units.Place.{Place}
-use Rattle.placing.specs.theorems.Decide.{samePlace}
+use Rattle.placing.specs.rules.Units.{samePlace}
 use Rattle.plan.specs.declared.name.Name.{Name}
 use Rattle.plan.specs.rules.Name.{bytesOf, nameOf, sameBytes}
 use Rattle.plan.specs.rules.Site.{Site}

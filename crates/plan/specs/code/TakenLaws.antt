@@ -12,7 +12,7 @@ use lib.ListN.{length, getD, take, replicate, length-map}
 use lib.Seq.{take-append-seam, take-at}
 use Rattle.placing.specs.declared.units.Place.{Place}
 use Rattle.placing.specs.rules.Units.{xOf, yOf}
-use Rattle.placing.specs.theorems.Decide.{samePlace}
+use Rattle.placing.specs.rules.Units.{samePlace}
 use Rattle.plan.specs.declared.name.Name.{Name}
 use Rattle.plan.specs.rules.Name.{bytesOf, nameOf, sameBytes}
 use Rattle.plan.specs.rules.Site.{Site, placeOf, placesOf, nameTaken, placeTaken, among}

@@ -11,7 +11,7 @@ use Rattle.placing.specs.declared.units.Place.{Place}
 use Rattle.placing.specs.declared.units.Side.the-variants.{Free}
 use Rattle.placing.specs.rules.Units.{nowhere, Distinct}
 use Rattle.placing.specs.rules.Answer.{Answer, answerOf, answer-is}
-use Rattle.placing.specs.code.Placed.{placedAs}
+use Rattle.placing.specs.rules.Placing.{placedAs}
 use Rattle.plan.specs.declared.name.Name.{Name}
 use Rattle.plan.specs.declared.plan.Plan.{Plan}
 use Rattle.plan.specs.rules.Name.{nameOf, bytesOf}

@@ -11,8 +11,8 @@ use lib.ListN.{length, getD, List·getD-map, length-map, length-append}
 use lib.Seq.{getD-append-seam}
 use Rattle.placing.specs.declared.units.Place.{Place}
 use Rattle.placing.specs.rules.Decides.{Decides}
-use Rattle.placing.specs.theorems.Decide.{samePlace, same-decides}
-use Rattle.placing.specs.rules.Units.{mostSites, greatestCoordinate, nowhere, xOf, yOf, siteAt, Same, Distinct, InRange}
+use Rattle.placing.specs.theorems.Decide.{same-decides}
+use Rattle.placing.specs.rules.Units.{mostSites, greatestCoordinate, nowhere, xOf, yOf, siteAt, Same, samePlace, Distinct, InRange}
 use Rattle.plan.specs.rules.Name.{isName, sameBytes, same-bytes-same, same-bytes-refl}
 
 -- A site: the spot of a bay sensor, by its name and place.

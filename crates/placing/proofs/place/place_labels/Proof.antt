@@ -9,7 +9,8 @@ use lib.ListN.{replicate}
 use Rattle.placing.specs.declared.units.Place.{Place}
 use Rattle.placing.specs.rules.Answer.{answerOf}
 use Rattle.placing.specs.code.Marks.{kept-further}
-use Rattle.placing.specs.code.Placed.{may-find, placedAs}
+use Rattle.placing.specs.rules.Placing.{placedAs}
+use Rattle.placing.specs.code.Placed.{may-find}
 use borrow.Author.Needs.{needs}
 use Rattle.placing.proofs.place.place_labels.Statement.{statement}
 use Rattle.placing.proofs.place.place_labels.Tie as tie

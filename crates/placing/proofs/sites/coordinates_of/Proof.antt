@@ -1,4 +1,4 @@
--- `placing::place::coordinates_of` meets its contract: the numbers so far are those of the sites passed, along either axis.
+-- `placing::sites::coordinates_of` meets its contract: the numbers so far are those of the sites passed, along either axis.
 -- Assumes nothing.
 use mathlib.Core.Path.{_≡_, refl, sym, ap, ap₂, _∙_}
 use mathlib.Core.List.{List, map}
@@ -11,8 +11,8 @@ use Rattle.placing.specs.rules.Units.{xOf, yOf, siteAt, nowhere}
 use Rattle.placing.specs.declared.units.Place.{Place}
 use Rattle.placing.specs.code.Sites.{sitesOf, length-sites, site-at}
 use Rattle.placing.proofs.Copied.{copied, copied-more, copied-at, zeros, length-zeros}
-use Rattle.placing.proofs.place.coordinates_of.Statement.{statement}
-use Rattle.placing.proofs.place.coordinates_of.Tie as tie
+use Rattle.placing.proofs.sites.coordinates_of.Statement.{statement}
+use Rattle.placing.proofs.sites.coordinates_of.Tie as tie
 
 -- the coordinate of a site, off the list of all
 axis-at : (f : Place → ℕ) → f nowhere ≡ 0 → (sites : List Place) (i : ℕ) → getD (map f sites) i 0 ≡ f (siteAt sites i)

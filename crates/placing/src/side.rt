@@ -9,6 +9,7 @@ ghost use mathlib.Core.Path.{_≡_};
 ghost use mathlib.Core.List.{_++_};
 ghost use Prim.Native.Nat.{_-_, _≤_};
 ghost use lib.ListN.{take, replicate};
+ghost use Rattle.placing.specs.rules.Units.{mostSites};
 ghost use Rattle.placing.specs.rules.Answer.{answerOf};
 ghost use Rattle.placing.specs.code.Sites.{sitesOf};
 ghost use Rattle.placing.specs.code.Ways.{Kept};
@@ -24,8 +25,8 @@ pub struct Placed {
 
 // The corners of the first `n` sites, 0 past them.
 fn first_corners(corners: [u8; Limits::SITES], n: usize) -> [u8; Limits::SITES]
-    requires { ⌜ n ≤ 240 ⌝ }
-    ensures { λ r. ⌜ r ≡ take n corners ++ replicate (240 - n) 0 ⌝ }
+    requires { ⌜ n ≤ mostSites ⌝ }
+    ensures { λ r. ⌜ r ≡ take n corners ++ replicate (mostSites - n) 0 ⌝ }
 {
     let mut first = [0u8; Limits::SITES];
     for i in 0..n {

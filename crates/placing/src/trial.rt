@@ -9,6 +9,7 @@ use crate::units::Limits;
 ghost use mathlib.Core.Path.{_≡_};
 ghost use Prim.Native.Nat.{ℕ, _≤_, _<_};
 ghost use lib.ListN.{length, set};
+ghost use Rattle.placing.specs.rules.Units.{mostSites};
 ghost use Rattle.placing.specs.rules.Corner.{Corner};
 ghost use Rattle.placing.specs.search.Labels.{labels};
 ghost use Rattle.placing.specs.rules.Decides.{Decides};
@@ -78,7 +79,7 @@ fn close_corner(
     j: usize,
     c: u8,
 ) -> bool
-    requires { ⌜ Sizes (now ways) (now decided) × (j < 240) × Corner c ⌝ }
+    requires { ⌜ Sizes (now ways) (now decided) × (j < mostSites) × Corner c ⌝ }
     ensures { λ r. ⌜ ClosedCorner (now (ways .entry)) (now (decided .entry)) j c r (now (ways .exit)) (now (decided .exit)) ⌝ }
 {
     let at = 4 * j;
@@ -148,7 +149,7 @@ fn carry_out(
 
 // Site `k` waits: it is decided and not marked. The arrays are lent, so that a marked site costs one byte read.
 fn waits(decided: &[u8; Limits::SITES], marks: &[u8], k: usize) -> bool
-    requires { ⌜ (length (now decided) ≡ 240) × (k < 240) × (k < length (now marks)) ⌝ }
+    requires { ⌜ (length (now decided) ≡ mostSites) × (k < mostSites) × (k < length (now marks)) ⌝ }
     ensures { λ r. ⌜ Decides r (Waits (now (decided .entry)) (now (marks .entry)) k) ⌝ }
 {
     if marks[k] == 1 {
@@ -159,7 +160,7 @@ fn waits(decided: &[u8; Limits::SITES], marks: &[u8], k: usize) -> bool
 
 // The first site that waits, or `n`.
 fn first_waiting(decided: &[u8; Limits::SITES], marks: &[u8], n: usize) -> usize
-    requires { ⌜ (length (now decided) ≡ 240) × (n ≤ 240) × (n ≤ length (now marks)) ⌝ }
+    requires { ⌜ (length (now decided) ≡ mostSites) × (n ≤ mostSites) × (n ≤ length (now marks)) ⌝ }
     ensures { λ r. ⌜ FirstWaiting (now (decided .entry)) (now (marks .entry)) n r ⌝ }
 {
     for k in 0..n {
@@ -225,7 +226,7 @@ fn mark_of(decided: u8) -> u8
 
 // Marks the decided sites.
 fn mark(decided: &[u8; Limits::SITES], marks: &mut [u8], n: usize)
-    requires { ⌜ (length (now decided) ≡ 240) × (n ≤ 240) × (n ≤ length (now marks)) ⌝ }
+    requires { ⌜ (length (now decided) ≡ mostSites) × (n ≤ mostSites) × (n ≤ length (now marks)) ⌝ }
     ensures marked { λ r. ⌜ Marked (now (decided .entry)) n (now (marks .exit)) ⌝ }
     ensures kept { λ r. ⌜ Kept n (now (marks .entry)) (now (marks .exit)) ⌝ }
 {
@@ -236,7 +237,7 @@ fn mark(decided: &[u8; Limits::SITES], marks: &mut [u8], n: usize)
 
 // Decides corner `c` of site `i`, which closes the site's other corners.
 fn take_corner(ways: &mut [u8; Limits::WAYS], decided: &mut [u8; Limits::SITES], i: usize, c: u8)
-    requires { ⌜ Sizes (now ways) (now decided) × (i < 240) × Corner c ⌝ }
+    requires { ⌜ Sizes (now ways) (now decided) × (i < mostSites) × Corner c ⌝ }
     ensures { λ r. ⌜ TakenCorner (now (ways .entry)) (now (decided .entry)) i c (now (ways .exit)) (now (decided .exit)) ⌝ }
 {
     let at = 4 * i;

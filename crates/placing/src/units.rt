@@ -41,7 +41,7 @@ impl Limits {
 
 impl Units {
     // The one conversion: a unit is two half units.
-    pub fn in_half_units(self) -> HalfUnits
+    pub(crate) fn in_half_units(self) -> HalfUnits
         requires { ⌜ self .0 ≤ greatestCoordinate ⌝ }
         ensures { λ r. ⌜ r .0 ≡ halves (self .0) ⌝ }
     {

@@ -16,7 +16,7 @@ use Rattle.placing.specs.declared.units.HalfUnits.{HalfUnits}
 use Rattle.placing.specs.declared.units.Place.{Place}
 use Rattle.placing.specs.declared.units.Side.{Side}
 use Rattle.placing.specs.declared.units.Side.the-variants.{Number, Free}
-use Rattle.placing.specs.rules.Units.{Distinct, freeSide, greatestSide}
+use Rattle.placing.specs.rules.Units.{mostSites, Distinct, freeSide, greatestSide}
 use Rattle.placing.specs.rules.Choice.{cornerAt, Good, First, Before, lower, later, good-one-exists}
 use Rattle.placing.specs.rules.Answer.{Answer, numbered, unbounded, answerOf, firstGood, firstGood-some, firstGood-none, answer-found, answer-free}
 use Rattle.placing.specs.code.Sites.{Held, sitesOf}
@@ -64,14 +64,14 @@ take-replicate (suc n) zero h = absurd (omega arith)
 take-replicate (suc n) (suc k) h = ap (λ (l : List ℕ). 1 ∷ l) (take-replicate n k (le-of-suc-le-suc h))
 
 -- Where free is out, the search starts with sides 1 and 20,001.
-pub between-starts : {ps : List Place} {n : ℕ} → Distinct ps → length ps ≡ n → n ≤ 240 → firstGood freeSide ps ≡ none
-    → BetweenIs ps n (record { low = record { 0 = 1 }; high = record { 0 = freeSide }; corners = replicate 240 1 })
+pub between-starts : {ps : List Place} {n : ℕ} → Distinct ps → length ps ≡ n → n ≤ mostSites → firstGood freeSide ps ≡ none
+    → BetweenIs ps n (record { low = record { 0 = 1 }; high = record { 0 = freeSide }; corners = replicate mostSites 1 })
 between-starts {ps} {n} distinct count few not-free =
     record {
       least = omega arith;
       apart = omega arith;
       most = omega arith;
-      first = rw (take-replicate n 240 few, ← count) (first-at-one distinct);
+      first = rw (take-replicate n mostSites few, ← count) (first-at-one distinct);
       no-good = firstGood-none not-free;
     }
 
@@ -110,14 +110,14 @@ module _ {ps : List Place} {n : ℕ} {between : Between} (is-between : BetweenIs
 
 -- The record of an answer whose n corners are these.
 placed-corners : {side : Side} {ps : List Place} {h : ℕ} (n : ℕ) (corners : List ℕ) → length ps ≡ n → First h ps (take n corners)
-    → _≡_ {A = Placed} (record { side = side; corners = take n corners ++ replicate (240 - n) 0 })
+    → _≡_ {A = Placed} (record { side = side; corners = take n corners ++ replicate (mostSites - n) 0 })
     (placedAs (record { side = side; corners = take n corners }))
 placed-corners n corners count first = rw (first .good .corners .one-each, count)
 
 -- Where the ends are one apart, the lower one is the answer.
 pub between-ends : {ps : List Place} {n : ℕ} {between : Between} → Distinct ps → length ps ≡ n
     → BetweenIs ps n between → between .high .0 ≤ between .low .0 + 1
-    → _≡_ {A = Placed} (record { side = Number (between .low); corners = take n (between .corners) ++ replicate (240 - n) 0 })
+    → _≡_ {A = Placed} (record { side = Number (between .low); corners = take n (between .corners) ++ replicate (mostSites - n) 0 })
     (placedAs (answerOf ps))
 between-ends {ps} {n} {between} distinct count is-between end =
     placed-corners n (between .corners) count (is-between .first)
@@ -129,7 +129,7 @@ between-ends {ps} {n} {between} distinct count is-between end =
 -- Where 20,001 has a good choice, the answer is free.
 pub free-placed : {ps : List Place} (n : ℕ) (chosen : Chosen) → Distinct ps → length ps ≡ n
     → choiceIn n chosen ≡ firstGood freeSide ps → chosen .ok ≡ true
-    → _≡_ {A = Placed} (record { side = Free; corners = take n (chosen .corners) ++ replicate (240 - n) 0 }) (placedAs (answerOf ps))
+    → _≡_ {A = Placed} (record { side = Free; corners = take n (chosen .corners) ++ replicate (mostSites - n) 0 }) (placedAs (answerOf ps))
 free-placed {ps} n chosen distinct count is ok =
     let first : First freeSide ps (take n (chosen .corners)) =
     firstGood-some (sym is ∙ ap (λ (b : Bool). whereYes b (take n (chosen .corners))) ok) in

@@ -10,6 +10,7 @@ use native.Mathlib.Omega.{arith}
 use lib.ListN.{length, take}
 use lib.Seq.{length-take-le, getD-take}
 use Rattle.placing.specs.declared.choice.Chosen.{Chosen}
+use Rattle.placing.specs.rules.Units.{mostSites}
 use Rattle.placing.specs.rules.Choice.{cornerAt, Good, First, Before}
 use Rattle.placing.specs.rules.Answer.{firstGood, first-found, none-found}
 use Rattle.placing.specs.code.Sites.{sitesOf}
@@ -67,7 +68,7 @@ module _ (h n : ℕ) (xs ys ways decided : List ℕ) (few : n ≤ length decided
       }
 
 -- A walk over all sites leaves the first good choice, or there is none.
-pub walked-choice : (h n : ℕ) (xs ys : List ℕ) (ok : Bool) (ways decided : List ℕ) → n ≤ 240 → WalkedTo (labels h n xs ys) n ok ways decided
+pub walked-choice : (h n : ℕ) (xs ys : List ℕ) (ok : Bool) (ways decided : List ℕ) → n ≤ mostSites → WalkedTo (labels h n xs ys) n ok ways decided
     → whereYes ok (take n decided) ≡ firstGood h (sitesOf n xs ys)
 walked-choice h n xs ys true ways decided few walked =
     sym (first-found (decisions-first h n xs ys ways decided (omega (arith, walked .sizes .decided-size)) (walked .walked refl)))

@@ -11,6 +11,7 @@ use lib.ListN.{length, getD, set, drop}
 use lib.Seq.{getD-set-same, getD-set-other}
 use Rattle.placing.specs.declared.trial.Left.{Left}
 use Rattle.placing.specs.declared.trial.Left.the-variants.{Nothing, One, More}
+use Rattle.placing.specs.rules.Units.{mostSites}
 use Rattle.placing.specs.rules.Corner.{Corner}
 use Rattle.placing.specs.rules.Choice.{cornerAt}
 use Rattle.placing.specs.search.Problem.{Problem, Solution}
@@ -70,8 +71,8 @@ row-elsewhere ways i n v j from to different =
     fun-ext (λ e. row-other ways n v j e (λ corner same. different (omega arith)))
 
 pub record Sizes (ways decided : List ℕ) : Type 0 where
-  pub ways-size : length ways ≡ 960
-  pub decided-size : length decided ≡ 240
+  pub ways-size : length ways ≡ 4 * mostSites
+  pub decided-size : length decided ≡ mostSites
 
 -- Corner c alone is open.
 pub record Lone (row : ℕ → ℕ) (c : ℕ) : Type 0 where

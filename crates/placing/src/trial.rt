@@ -13,7 +13,7 @@ ghost use Rattle.placing.specs.rules.Units.{mostSites};
 ghost use Rattle.placing.specs.rules.Corner.{Corner};
 ghost use Rattle.placing.specs.search.Labels.{labels};
 ghost use Rattle.placing.specs.rules.Decides.{Decides};
-ghost use Rattle.placing.specs.code.Ways.{rowAt, LeftIs, Sizes, TakenCorner, ClosedCorner, CarriedThere, CarriedOut, Waits, FirstWaiting, Kept, markOf, Marked, CarriedOn, Tried};
+ghost use Rattle.placing.specs.code.Ways.{rowAt, oneOrMore, LeftIs, Sizes, TakenCorner, ClosedCorner, CarriedThere, CarriedOut, Waits, FirstWaiting, Kept, markOf, Marked, CarriedOn, Tried};
 ghost use Rattle.placing.specs.code.Asks.{MayCarryTo, MayCarryOut, MayCarryOn, MayTry};
 
 // Which corners of a site are open: nothing, one, or more.
@@ -35,36 +35,25 @@ pub(crate) struct Attempt {
     pub state: State,
 }
 
+// An open corner, alone or with others.
+fn one_or_more(c: u8, others: bool) -> Left
+    ensures { λ r. ⌜ r ≡ oneOrMore c others ⌝ }
+{
+    if others { Left::More } else { Left::One(c) }
+}
+
 // How many of a site's four corners are open, by its four bytes.
 fn left_of(a: u8, b: u8, c: u8, d: u8) -> Left
     ensures { λ r. ⌜ LeftIs r (rowAt a b c d) ⌝ }
 {
     if a == 1 {
-        if b == 1 {
-            return Left::More;
-        }
-        if c == 1 {
-            return Left::More;
-        }
-        if d == 1 {
-            return Left::More;
-        }
-        return Left::One(1);
+        return one_or_more(1, b == 1 || c == 1 || d == 1);
     }
     if b == 1 {
-        if c == 1 {
-            return Left::More;
-        }
-        if d == 1 {
-            return Left::More;
-        }
-        return Left::One(2);
+        return one_or_more(2, c == 1 || d == 1);
     }
     if c == 1 {
-        if d == 1 {
-            return Left::More;
-        }
-        return Left::One(3);
+        return one_or_more(3, d == 1);
     }
     if d == 1 {
         return Left::One(4);

@@ -112,11 +112,22 @@ none-row a b c d h = record { none-open = by-corner (λ e. ⊥) a b c d (h .0) (
 pub some-row : {row : ℕ → ℕ} (e f : ℕ) → (e ≢ f) × (row e ≡ 1) × (row f ≡ 1) → SomeOpen row
 some-row e f h = record { one = e; two = f; differ = h .0; one-open = h .1; two-open = h .2 }
 
+-- An open corner, alone or with others.
+abbrev pub oneOrMore : ℕ → Bool → Left
+oneOrMore c true = More
+oneOrMore c false = One c
+
 -- What the count of a site's open corners says.
 abbrev pub LeftIs : Left → (ℕ → ℕ) → Type 0
 LeftIs Nothing row = NoneOpen row
 LeftIs (One c) row = Lone row c
 LeftIs More row = SomeOpen row
+
+-- A flag says whether an open corner is one of more.
+pub left-by : {row : ℕ → ℕ} (c : ℕ) (others : Bool) → (others ≡ true → SomeOpen row) → (others ≡ false → Lone row c)
+    → LeftIs (oneOrMore c others) row
+left-by c true some lone = some refl
+left-by c false some lone = lone refl
 
 -- Corner c of site i was taken: it alone is open, and decided.
 pub record TakenCorner (ways decided : List ℕ) (i c : ℕ) (ways′ decided′ : List ℕ) : Type 0 where

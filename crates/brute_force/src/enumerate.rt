@@ -96,7 +96,17 @@ fn crowding_limit(place: Place, corner: u8, other: Place) -> u64 {
     greater(a, b)
 }
 
-// The least limit that the other sites set for the label of site `i`. Crowding counts where `crowding` says so.
+// The limit that another site and its corner set for a label. Crowding counts where `crowding` says so.
+fn pair_limit(mine: Place, corner: u8, other: Place, other_corner: u8, crowding: bool) -> u64 {
+    let meeting = meeting_limit(mine, corner, other, other_corner);
+    if crowding {
+        lesser(meeting, crowding_limit(mine, corner, other))
+    } else {
+        meeting
+    }
+}
+
+// The least limit that the other sites set for the label of site `i`.
 fn site_limit(sites: Sites, corners: [u8; 7], i: usize, crowding: bool) -> u64
     requires { ⌜ (sites .n ≤ 7) × (i < 7) ⌝ }
 {
@@ -107,11 +117,10 @@ fn site_limit(sites: Sites, corners: [u8; 7], i: usize, crowding: bool) -> u64
     let mut least = NO_LIMIT;
     for j in 0..n {
         if j != i {
-            let other = places[j];
-            least = lesser(least, meeting_limit(mine, corner, other, corners[j]));
-            if crowding {
-                least = lesser(least, crowding_limit(mine, corner, other));
-            }
+            least = lesser(
+                least,
+                pair_limit(mine, corner, places[j], corners[j], crowding),
+            );
         }
     }
     least

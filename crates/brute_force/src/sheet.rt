@@ -8,6 +8,16 @@ fn byte_at(sheet: &[u8], at: usize) -> u8 {
     if at < sheet.len() { sheet[at] } else { 0 }
 }
 
+// The number with one more digit, or a number above 20,000 where the byte is above the digits.
+fn with_digit(value: u64, byte: u8) -> u64
+    requires { ⌜ (value ≤ 20000) × (48 ≤ byte) ⌝ }
+{
+    if b'9' < byte {
+        return FREE;
+    }
+    value * 10 + (byte - b'0') as u64
+}
+
 // The number from byte 5 on: up to 20,000, else 0.
 fn side_number(sheet: &[u8]) -> u64 {
     let mut value: u64 = 0;
@@ -16,10 +26,7 @@ fn side_number(sheet: &[u8]) -> u64 {
         if byte < b'0' {
             return value;
         }
-        if b'9' < byte {
-            return 0;
-        }
-        value = value * 10 + (byte - b'0') as u64;
+        value = with_digit(value, byte);
         if 20_000 < value {
             return 0;
         }

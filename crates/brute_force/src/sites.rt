@@ -38,6 +38,10 @@ pub fn same_answer(a: Answer, b: Answer, n: usize) -> bool
     true
 }
 
+fn same_place(p: Place, q: Place) -> bool {
+    if p.x == q.x { p.y == q.y } else { false }
+}
+
 // Some site is at this place.
 pub fn taken(sites: Sites, place: Place) -> bool
     requires { ⌜ sites .n ≤ 7 ⌝ }
@@ -45,11 +49,8 @@ pub fn taken(sites: Sites, place: Place) -> bool
     let n = sites.n;
     let places = sites.places;
     for i in 0..n {
-        let p = places[i];
-        if p.x == place.x {
-            if p.y == place.y {
-                return true;
-            }
+        if same_place(places[i], place) {
+            return true;
         }
     }
     false
@@ -66,12 +67,8 @@ pub fn in_one_row(sites: Sites) -> bool
     let mut one_y = true;
     for i in 0..n {
         let p = places[i];
-        if p.x != first.x {
-            one_x = false;
-        }
-        if p.y != first.y {
-            one_y = false;
-        }
+        one_x = one_x && p.x == first.x;
+        one_y = one_y && p.y == first.y;
     }
     if n < 3 { false } else { one_x || one_y }
 }

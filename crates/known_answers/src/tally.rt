@@ -25,10 +25,10 @@ pub fn print_tally(tally: Tally) {
 // A byte of a text, with a tab and a line feed made visible.
 fn print_byte(b: u8) {
     match b {
-        9 => {
+        b'\t' => {
             io::write_all(1, b"\\t");
         }
-        10 => {
+        b'\n' => {
             io::write_all(1, b"\\n");
         }
         _ => {

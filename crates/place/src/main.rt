@@ -4,32 +4,88 @@ use libc::STDIN_FILENO;
 use libc::STDOUT_FILENO;
 use plan::output::output;
 use plan::plan::Written;
-ghost use Rattle.place.specs.Input.{Within};
+ghost use Prim.Native.Nat.{_≤_, _<_};
+ghost use mathlib.Core.Path.{_≡_};
+ghost use lib.ListN.{length};
+ghost use Rattle.place.specs.Input.{Finished, Onward, Whole, bytesOf, roomLeft, stepOf};
 ghost use Rattle.plan.specs.code.Within.{WrittenWithin};
 
-// How many bytes came before the end of the input or of the room, or that a read failed.
-enum Input {
-    Bytes(usize),
+// What one read did: it brought so many bytes, or found the end of the input, or failed.
+enum Step {
+    Got(usize),
+    Ended,
     Failed,
 }
 
-// Reads until the input ends or the room is full, however the bytes arrive.
-fn read_input(text: &mut [u8]) -> Input
-    ensures { λ r. ⌜ Within r (now (text .exit)) ⌝ }
+// How far reading came: how many bytes stand in the room, and what the last read did. Before the first read that is `Got(0)`.
+struct Reading {
+    at: usize,
+    last: Step,
+}
+
+// What an answer of `read` means.
+fn step_of(got: isize) -> Step
+    ensures { λ r. ⌜ r ≡ stepOf got ⌝ }
 {
-    let mut at = 0;
-    while at < text.len() {
-        let got = libc::read(STDIN_FILENO, &mut text[at..]);
-        if got < 0 {
-            return Input::Failed;
-        }
-        let n = io::count(got, &text[at..]);
-        if n == 0 {
-            return Input::Bytes(at);
-        }
-        at += n;
+    if got < 0 {
+        return Step::Failed;
     }
-    Input::Bytes(at)
+    let n = got as usize;
+    if n == 0 {
+        return Step::Ended;
+    }
+    Step::Got(n)
+}
+
+// How many bytes a step brought.
+fn bytes_of(step: Step) -> usize
+    ensures { λ r. ⌜ r ≡ bytesOf step ⌝ }
+{
+    match step {
+        Step::Got(n) => n,
+        Step::Ended => 0,
+        Step::Failed => 0,
+    }
+}
+
+// How many bytes the next read may bring: none after the end of the input or a failed read.
+fn room_left(reading: Reading, room: &[u8]) -> usize
+    requires { ⌜ reading .at ≤ length (now room) ⌝ }
+    ensures { λ r. ⌜ r ≡ roomLeft reading (now (room .entry)) ⌝ }
+{
+    let last = reading.last;
+    match last {
+        Step::Got(_) => room.len() - reading.at,
+        Step::Ended => 0,
+        Step::Failed => 0,
+    }
+}
+
+// One read into what is left of the room.
+fn read_once(text: &mut [u8], at: usize) -> Reading
+    requires { ⌜ at < length (now text) ⌝ }
+    ensures { λ r. ⌜ Onward at r (now (text .exit)) ⌝ }
+{
+    let got = libc::read(STDIN_FILENO, &mut text[at..]);
+    let step = step_of(got);
+    Reading {
+        at: at + bytes_of(step),
+        last: step,
+    }
+}
+
+// Reads until the input ends, a read fails or the room is full, however the bytes arrive.
+fn read_input(text: &mut [u8]) -> Reading
+    ensures { λ r. ⌜ Finished r (now (text .exit)) ⌝ }
+{
+    let mut reading = Reading {
+        at: 0,
+        last: Step::Got(0),
+    };
+    while 0 < room_left(reading, text) {
+        reading = read_once(text, reading.at);
+    }
+    reading
 }
 
 // Writes the output that a buffer holds.
@@ -43,22 +99,31 @@ fn write_output(written: Written, buffer: &[u8])
     }
 }
 
-// Answers the input that a buffer holds. A list cut short by a failed read yields no sheet.
-fn answer(input: Input, text: &[u8])
-    requires { ⌜ Within input (now text) ⌝ }
+// Answers the list that stands at the start of a buffer. It is for a list that no failed read cut short.
+fn answer_list(reading: Reading, text: &[u8])
+    requires { ⌜ Whole reading (now text) ⌝ }
 {
-    if let Input::Bytes(n) = input {
-        let mut buffer = [0u8; 5531];
-        let written = output(&text[..n], &mut buffer);
-        write_output(written, &buffer);
-    } else {
+    let n = reading.at;
+    let mut buffer = [0u8; 5531];
+    let written = output(&text[..n], &mut buffer);
+    write_output(written, &buffer);
+}
+
+// Answers what was read. A list cut short by a failed read yields no sheet.
+fn answer(reading: Reading, text: &[u8])
+    requires { ⌜ Finished reading (now text) ⌝ }
+{
+    let last = reading.last;
+    if let Step::Failed = last {
         io::write_all(STDERR_FILENO, b"place: standard input cannot be read\n");
+    } else {
+        answer_list(reading, text);
     }
 }
 
 // 5,061 bytes decide every longer text.
 fn main() {
     let mut text = [0u8; 5061];
-    let input = read_input(&mut text);
-    answer(input, &text);
+    let reading = read_input(&mut text);
+    answer(reading, &text);
 }

@@ -1,7 +1,7 @@
 // The lists to place. Only the first sites of an array count; the others lie at the origin.
 use placing::units::Place;
 use placing::units::Units;
-ghost use Prim.Native.Nat.{_≤_};
+ghost use Prim.Native.Nat.{_≤_, _<_};
 
 // The place (x, y).
 fn at(x: u32, y: u32) -> Place {
@@ -26,20 +26,21 @@ pub fn line(x: u32, y: u32, right: u32, up: u32, n: usize) -> [Place; 240]
     sites
 }
 
+// Place `i` of the grid below.
+fn in_grid(width: u32, i: usize) -> Place
+    requires { ⌜ (0 < width) × (i < 240) ⌝ }
+{
+    let count = i as u32;
+    at(count % width, count / width)
+}
+
 // `n` sites one unit apart, from the origin on: rows of `width`, each above the one before.
 pub fn grid(width: u32, n: usize) -> [Place; 240]
-    requires { ⌜ n ≤ 240 ⌝ }
+    requires { ⌜ (0 < width) × (n ≤ 240) ⌝ }
 {
     let mut sites = [at(0, 0); 240];
-    let mut x: u32 = 0;
-    let mut y: u32 = 0;
     for i in 0..n {
-        sites[i] = at(x, y);
-        x += 1;
-        if x == width {
-            x = 0;
-            y += 1;
-        }
+        sites[i] = in_grid(width, i);
     }
     sites
 }

@@ -1,34 +1,23 @@
--- `place::answer` is safe: what `output` writes lies within the buffer.
+-- `place::answer` is safe: only a list that no failed read cut short is answered.
 -- Assumes nothing.
-use lib.ListN.{take, replicate}
-use mathlib.Core.Path.{sym}
-use lib.Seq.{length-take-le}
-use Rattle.plan.specs.code.Within.{output-within}
+use mathlib.Core.Logic.{⊎-elim}
+use native.Mathlib.Omega.{arith}
+use mathlib.Core.List.{[], _∷_}
+use denote.Enum.Declared.{tagOf}
+use types.Run.{OneOf}
+use Rattle.place.specs.declared.Step.{Step}
+use Rattle.place.specs.declared.Step.the-variants.{Got, Ended, Failed}
+use Rattle.place.specs.Input.{Sound}
+use Rattle.place.proofs.Step as step
 use borrow.Author.Needs.{needs}
 use Rattle.place.proofs.answer.Statement.{statement}
 use Rattle.place.proofs.answer.Tie as tie
 
-enum-known-input : tie.Need-enum-known-input
-enum-known-input c = search needs
-
-slice-aggregate-output : tie.Need-slice-aggregate-output
-slice-aggregate-output c = sym (length-take-le _ (c .before .before .before .before .before .args .text .now) (rw (c .before .before .input .given .1) at (c .before .before .before .before .before .pre)))
-
-slice-aggregate-output-2 : tie.Need-slice-aggregate-output-2
-slice-aggregate-output-2 c = search needs
-
-output-requires : tie.Need-output-requires
-output-requires c κs = search needs
-
-slice-aggregate-write-output : tie.Need-slice-aggregate-write-output
-slice-aggregate-write-output c = search needs
-
-write-output-requires : tie.Need-write-output-requires
-write-output-requires c κs =
-    let at-output = c .before .before .output in
-    let at-input = c .before .before .before .before .before .before in
-    output-within (take (at-input .input .given .0 .0) (at-input .before .before .before .args .text .now)) (replicate 5531 0)
-    (at-output .ensures .0) (at-output .ensures .1 .0)
+-- A step whose place among the variants is that of `Got` or `Ended` is no failure.
+unfailed : (s : Step) → OneOf (0 ∷ 1 ∷ []) (tagOf step.the-type s) → Sound s
+unfailed (Got n) key = tt
+unfailed Ended key = tt
+unfailed Failed key = ⊎-elim (λ e. omega arith) (λ e. omega arith) key
 
 enum-told : tie.Need-enum-told
 enum-told c = search needs
@@ -38,6 +27,10 @@ slice-aggregate-write-all c = search needs
 
 write-all-requires : tie.Need-write-all-requires
 write-all-requires c κs = search needs
+
+answer-list-requires : tie.Need-answer-list-requires
+answer-list-requires c κs =
+    record { within = search needs; sound = unfailed (c .before .before .args .reading .last) (c .match .keys2) }
 
 returns : tie.Need-returns
 returns c = search needs
@@ -49,14 +42,9 @@ pub answer-spec : {M : Type 1} → statement M
 answer-spec =
     tie.close
     (tie.spec
-    enum-known-input
-    slice-aggregate-output
-    slice-aggregate-output-2
-    output-requires
-    slice-aggregate-write-output
-    write-output-requires
     enum-told
     slice-aggregate-write-all
     write-all-requires
+    answer-list-requires
     returns
     returns-2)

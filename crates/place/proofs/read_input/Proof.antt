@@ -1,72 +1,47 @@
--- `place::read_input` is safe and ends: each turn reads a byte or more, or is the last.
+-- `place::read_input` meets its contract: each turn reads a byte or more, or is the last.
 -- Assumes nothing.
 use mathlib.Core.Path.{_≡_}
-use Prim.Native.Nat.{_≤_, _-_}
+use Prim.Native.Nat.{_≤_}
 use native.Mathlib.Omega.{arith}
 use lib.ListN.{length}
 use borrow.Author.Needs.{needs}
+use Rattle.place.specs.Input.{roomLeft}
+use Rattle.place.specs.InputLaws.{left-inside, left-falls}
 use Rattle.place.proofs.read_input.Statement.{statement}
 use Rattle.place.proofs.read_input.Tie as tie
 
 abbrev Inv-loop : tie.InvT-loop
-Inv-loop text₀ at₀ text at = (at ≤ length text) × (length text ≡ length text₀)
+Inv-loop text₀ reading₀ text reading = (reading .at ≤ length text) × (length text ≡ length text₀)
 
 abbrev μ-loop : tie.MeasureT-loop
-μ-loop text₀ at₀ text at = length text₀ - at
+μ-loop text₀ reading₀ text reading = roomLeft reading text
 
 loop-holds : tie.Need-loop-holds Inv-loop μ-loop
 loop-holds c = search needs
 
-sub-read : tie.Need-sub-read Inv-loop μ-loop
-sub-read c = search needs
+room-left-requires : tie.Need-room-left-requires Inv-loop μ-loop
+room-left-requires c κs = search needs
 
-part-read-start : tie.Need-part-read-start Inv-loop μ-loop
-part-read-start c = search needs
+read-once-requires : tie.Need-read-once-requires Inv-loop μ-loop
+read-once-requires c κs =
+    let at-loop = c .before .before .before .before .loop in
+    left-inside (at-loop .reading) (at-loop .text) (omega (arith, c .before .before .room-left .ensures))
 
-part-read-end : tie.Need-part-read-end Inv-loop μ-loop
-part-read-end c = search needs
+loop-less : tie.Need-loop-less Inv-loop μ-loop
+loop-less c =
+    let at-loop = c .before .before .before .before .before .before .before .loop in
+    let once = c .before .before .read-once in
+    left-falls (at-loop .reading) (once .result) (at-loop .text) (once .last .0)
+    (omega (arith, c .before .before .before .before .before .room-left .ensures)) (search needs) (once .ensures)
 
-read-requires : tie.Need-read-requires Inv-loop μ-loop
-read-requires c κs = search needs
+loop-again : tie.Need-loop-again Inv-loop μ-loop
+loop-again c = search needs
 
 same-length : tie.Need-same-length Inv-loop μ-loop
 same-length c = search needs
 
 returns : tie.Need-returns Inv-loop μ-loop
-returns c = search needs
-
-sub-count : tie.Need-sub-count Inv-loop μ-loop
-sub-count c = search needs
-
-part-count-start : tie.Need-part-count-start Inv-loop μ-loop
-part-count-start c = search needs
-
-part-count-end : tie.Need-part-count-end Inv-loop μ-loop
-part-count-end c = search needs
-
-count-requires : tie.Need-count-requires Inv-loop μ-loop
-count-requires c κs = search needs
-
-same-length-2 : tie.Need-same-length-2 Inv-loop μ-loop
-same-length-2 c = search needs
-
-returns-2 : tie.Need-returns-2 Inv-loop μ-loop
-returns-2 c = search needs
-
-add-at : tie.Need-add-at Inv-loop μ-loop
-add-at c = search needs
-
-loop-less : tie.Need-loop-less Inv-loop μ-loop
-loop-less c = search needs
-
-loop-again : tie.Need-loop-again Inv-loop μ-loop
-loop-again c = search needs
-
-same-length-3 : tie.Need-same-length-3 Inv-loop μ-loop
-same-length-3 c = search needs
-
-returns-3 : tie.Need-returns-3 Inv-loop μ-loop
-returns-3 c = search needs
+returns c = record { within = search needs; over = omega (arith, c .before .room-left .ensures) }
 
 pub read-input-spec : {M : Type 1} → statement M
 read-input-spec =
@@ -75,20 +50,9 @@ read-input-spec =
     Inv-loop
     μ-loop
     loop-holds
-    sub-read
-    part-read-start
-    part-read-end
-    read-requires
-    same-length
-    returns
-    sub-count
-    part-count-start
-    part-count-end
-    count-requires
-    same-length-2
-    returns-2
-    add-at
+    room-left-requires
+    read-once-requires
     loop-less
     loop-again
-    same-length-3
-    returns-3)
+    same-length
+    returns)

@@ -1,6 +1,7 @@
--- `enumerate::site_limit` is safe. The loop counts up to `n`. Assumes nothing.
-use borrow.Author.Needs.{needs}
+-- `brute_force::enumerate::site_limit` is safe: the loop counts up to `n`.
+-- Assumes nothing.
 use Prim.Native.Nat.{_≤_, _-_}
+use borrow.Author.Needs.{needs}
 use Rattle.brute_force.proofs.enumerate.site_limit.Statement.{statement}
 use Rattle.brute_force.proofs.enumerate.site_limit.Tie as tie
 
@@ -22,26 +23,20 @@ array-read-corner c = search needs
 loop-holds : tie.Need-loop-holds Inv-loop μ-loop
 loop-holds c = search needs
 
-mul-other : tie.Need-mul-other Inv-loop μ-loop
-mul-other c = search needs
+mul-pair-limit : tie.Need-mul-pair-limit Inv-loop μ-loop
+mul-pair-limit c = search needs
 
-array-copy-out-other : tie.Need-array-copy-out-other Inv-loop μ-loop
-array-copy-out-other c = search needs
+array-copy-out-pair-limit : tie.Need-array-copy-out-pair-limit Inv-loop μ-loop
+array-copy-out-pair-limit c = search needs
 
-array-read-meeting-limit : tie.Need-array-read-meeting-limit Inv-loop μ-loop
-array-read-meeting-limit c = search needs
+array-read-pair-limit : tie.Need-array-read-pair-limit Inv-loop μ-loop
+array-read-pair-limit c = search needs
 
-meeting-limit-requires : tie.Need-meeting-limit-requires Inv-loop μ-loop
-meeting-limit-requires c κs = search needs
+pair-limit-requires : tie.Need-pair-limit-requires Inv-loop μ-loop
+pair-limit-requires c κs = search needs
 
 lesser-requires : tie.Need-lesser-requires Inv-loop μ-loop
 lesser-requires c κs = search needs
-
-crowding-limit-requires : tie.Need-crowding-limit-requires Inv-loop μ-loop
-crowding-limit-requires c κs = search needs
-
-lesser-requires-2 : tie.Need-lesser-requires-2 Inv-loop μ-loop
-lesser-requires-2 c κs = search needs
 
 add-j : tie.Need-add-j Inv-loop μ-loop
 add-j c = search needs
@@ -65,13 +60,11 @@ site-limit-spec =
     array-copy-out-mine
     array-read-corner
     loop-holds
-    mul-other
-    array-copy-out-other
-    array-read-meeting-limit
-    meeting-limit-requires
+    mul-pair-limit
+    array-copy-out-pair-limit
+    array-read-pair-limit
+    pair-limit-requires
     lesser-requires
-    crowding-limit-requires
-    lesser-requires-2
     add-j
     loop-less
     loop-again

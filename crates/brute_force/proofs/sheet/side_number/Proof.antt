@@ -1,6 +1,7 @@
--- `sheet::side_number` is safe. A turn leaves at most 20,000 in `value`. Assumes nothing.
-use borrow.Author.Needs.{needs}
+-- `brute_force::sheet::side_number` is safe: a turn leaves at most 20,000 in `value`.
+-- Assumes nothing.
 use Prim.Native.Nat.{_≤_, _-_}
+use borrow.Author.Needs.{needs}
 use Rattle.brute_force.proofs.sheet.side_number.Statement.{statement}
 use Rattle.brute_force.proofs.sheet.side_number.Tie as tie
 
@@ -19,20 +20,11 @@ byte-at-requires c κs = search needs
 returns : tie.Need-returns Inv-loop μ-loop
 returns c = search needs
 
+with-digit-requires : tie.Need-with-digit-requires Inv-loop μ-loop
+with-digit-requires c κs = search needs
+
 returns-2 : tie.Need-returns-2 Inv-loop μ-loop
 returns-2 c = search needs
-
-mul-value : tie.Need-mul-value Inv-loop μ-loop
-mul-value c = search needs
-
-cast-value : tie.Need-cast-value Inv-loop μ-loop
-cast-value c = search needs
-
-add-value : tie.Need-add-value Inv-loop μ-loop
-add-value c = search needs
-
-returns-3 : tie.Need-returns-3 Inv-loop μ-loop
-returns-3 c = search needs
 
 add-i : tie.Need-add-i Inv-loop μ-loop
 add-i c = search needs
@@ -43,8 +35,8 @@ loop-less c = search needs
 loop-again : tie.Need-loop-again Inv-loop μ-loop
 loop-again c = search needs
 
-returns-4 : tie.Need-returns-4 Inv-loop μ-loop
-returns-4 c = search needs
+returns-3 : tie.Need-returns-3 Inv-loop μ-loop
+returns-3 c = search needs
 
 pub side-number-spec : {M : Type 1} → statement M
 side-number-spec =
@@ -55,12 +47,9 @@ side-number-spec =
     loop-holds
     byte-at-requires
     returns
+    with-digit-requires
     returns-2
-    mul-value
-    cast-value
-    add-value
-    returns-3
     add-i
     loop-less
     loop-again
-    returns-4)
+    returns-3)

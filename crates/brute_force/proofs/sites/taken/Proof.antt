@@ -1,6 +1,7 @@
--- `sites::taken` is safe. The loop counts up to `n`. Assumes nothing.
-use borrow.Author.Needs.{needs}
+-- `brute_force::sites::taken` is safe: the loop counts up to `n`.
+-- Assumes nothing.
 use Prim.Native.Nat.{_≤_, _-_}
+use borrow.Author.Needs.{needs}
 use Rattle.brute_force.proofs.sites.taken.Statement.{statement}
 use Rattle.brute_force.proofs.sites.taken.Tie as tie
 
@@ -13,11 +14,14 @@ abbrev μ-loop : tie.MeasureT-loop
 loop-holds : tie.Need-loop-holds Inv-loop μ-loop
 loop-holds c = search needs
 
-mul-p : tie.Need-mul-p Inv-loop μ-loop
-mul-p c = search needs
+mul-same-place : tie.Need-mul-same-place Inv-loop μ-loop
+mul-same-place c = search needs
 
-array-copy-out-p : tie.Need-array-copy-out-p Inv-loop μ-loop
-array-copy-out-p c = search needs
+array-copy-out-same-place : tie.Need-array-copy-out-same-place Inv-loop μ-loop
+array-copy-out-same-place c = search needs
+
+same-place-requires : tie.Need-same-place-requires Inv-loop μ-loop
+same-place-requires c κs = search needs
 
 returns : tie.Need-returns Inv-loop μ-loop
 returns c = search needs
@@ -41,8 +45,9 @@ taken-spec =
     Inv-loop
     μ-loop
     loop-holds
-    mul-p
-    array-copy-out-p
+    mul-same-place
+    array-copy-out-same-place
+    same-place-requires
     returns
     add-i
     loop-less

@@ -2,6 +2,7 @@
 use libc::STDERR_FILENO;
 use libc::STDIN_FILENO;
 use libc::STDOUT_FILENO;
+use plan::limits::TextLimits;
 use plan::output::output;
 use plan::plan::Written;
 ghost use Prim.Native.Nat.{_≤_, _<_};
@@ -104,7 +105,7 @@ fn answer_list(reading: Reading, text: &[u8])
     requires { ⌜ Whole reading (now text) ⌝ }
 {
     let n = reading.at;
-    let mut buffer = [0u8; 5531];
+    let mut buffer = [0u8; TextLimits::SHEET];
     let written = output(&text[..n], &mut buffer);
     write_output(written, &buffer);
 }
@@ -121,9 +122,9 @@ fn answer(reading: Reading, text: &[u8])
     }
 }
 
-// 5,061 bytes decide every longer text.
+// The bytes read decide every longer text.
 fn main() {
-    let mut text = [0u8; 5061];
+    let mut text = [0u8; TextLimits::TEXT];
     let reading = read_input(&mut text);
     answer(reading, &text);
 }

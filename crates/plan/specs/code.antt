@@ -10,6 +10,7 @@ pub mod FieldLaws
 pub mod Taken
 pub mod TakenLaws
 pub mod PlanLaws
+pub mod Entering
 pub mod CallLaws
 pub mod Reading
 pub mod Put

@@ -1,47 +1,34 @@
 // The calls of document 01 on a plan. A call takes the plan and hands back the one after it, where that can be another.
 use crate::name::name_from;
+use crate::number::coordinate_at;
+use crate::number::place_at;
 use crate::plan::AskedCorner;
 use crate::plan::AskedSide;
 use crate::plan::Plan;
 use crate::plan::Planned;
-use crate::plan::append;
+use crate::plan::enter_read;
 use crate::plan::refuse;
 use crate::refusal::Outcome;
 use crate::refusal::Refusal;
 use placing::place::place_labels;
-use placing::units::Limits;
-use placing::units::Place;
-use placing::units::Units;
 ghost use mathlib.Core.Path.{_≡_};
 ghost use Rattle.placing.specs.rules.Choice.{cornerAt};
 ghost use Rattle.plan.specs.rules.Plan.{sitesIn, Valid};
 ghost use Rattle.plan.specs.rules.Calls.{enteredIn, placedIn, tableAfter, answerFor, sideAsked, cornerAsked, counted};
 ghost use Rattle.plan.specs.rules.Calls.{outcomeNumber, enterNumber, placeNumber, carriedAt};
-ghost use Rattle.plan.specs.rules.Calls.{sideAskedNumber, sideCarried, askSideNumber};
+ghost use Rattle.plan.specs.rules.Calls.{sideAskedNumber, sideNumber, sideCarried, askSideNumber};
 ghost use Rattle.plan.specs.rules.Calls.{cornerAskedNumber, cornerCarried, askCornerNumber};
 
-// Enters one site at the end: tests 2, 3, then 7, 4, 5.
+// Enters one site at the end: tests 2, 3, 7, 4, 5.
 pub fn enter(plan: Plan, name: &[u8], x: u64, y: u64) -> Planned
     requires { ⌜ Valid plan ⌝ }
     ensures answer { λ r. ⌜ r ≡ enteredIn plan (now (name .entry)) x y ⌝ }
     ensures valid { λ r. ⌜ Valid (r .plan) ⌝ }
     ensures number { λ r. ⌜ outcomeNumber (r .outcome) ≡ enterNumber (sitesIn plan) (now (name .entry)) x y ⌝ }
 {
-    let read = name_from(name);
-    if !read.ok {
-        return refuse(plan, Refusal::Name);
-    }
-    if x > Limits::COORDINATE as u64 {
-        return refuse(plan, Refusal::Coordinate);
-    }
-    if y > Limits::COORDINATE as u64 {
-        return refuse(plan, Refusal::Coordinate);
-    }
-    let place = Place {
-        x: Units(x as u32),
-        y: Units(y as u32),
-    };
-    append(plan, read.name, place)
+    let site_name = name_from(name);
+    let site_place = place_at(coordinate_at(x), coordinate_at(y));
+    enter_read(plan, site_name, site_place)
 }
 
 // Finds the answer of the plan's sites: tests 8, 11.
@@ -83,7 +70,7 @@ pub fn side(plan: Plan) -> AskedSide
     requires { ⌜ Valid plan ⌝ }
     ensures answer { λ r. ⌜ r ≡ sideAsked plan ⌝ }
     ensures number { λ r. ⌜ sideAskedNumber r ≡ askSideNumber plan ⌝ }
-    ensures value { λ r. ⌜ sideCarried r ≡ carriedAt (askSideNumber plan) (answerFor plan .side) ⌝ }
+    ensures value { λ r. ⌜ sideCarried r ≡ carriedAt (askSideNumber plan) (sideNumber (answerFor plan .side)) ⌝ }
 {
     if !plan.placed {
         return AskedSide::NoSide(Refusal::NotPlaced);

@@ -1,14 +1,14 @@
 // Reading a list: one site a line, name, x, y, parted by one tab each.
+use crate::limits::TextLimits;
 use crate::name::name_from;
-use crate::number::Coordinate;
 use crate::number::coordinate_from;
+use crate::number::place_at;
 use crate::plan::Plan;
 use crate::plan::Planned;
-use crate::plan::append;
+use crate::plan::enter_read;
 use crate::plan::refuse;
 use crate::refusal::Outcome;
 use crate::refusal::Refusal;
-use placing::units::Place;
 ghost use mathlib.Core.Path.{_≡_};
 ghost use mathlib.Core.List.{[], _∷_};
 ghost use Prim.Native.Nat.{_≤_};
@@ -17,7 +17,7 @@ ghost use Rattle.plan.specs.rules.Text.{firstLine};
 ghost use Rattle.plan.specs.rules.List.{enteredFields, enteredLine};
 ghost use Rattle.plan.specs.rules.Plan.{sitesIn, Valid};
 ghost use Rattle.plan.specs.rules.Calls.{plannedOr, readFrom, outcomeNumber, readNumber};
-ghost use Rattle.plan.specs.code.Line.{lineEnd, FieldEnd};
+ghost use Rattle.plan.specs.code.Line.{lineEnd, lineRead, FieldEnd};
 
 // Where a line ends: the place of its line feed, if it has one in time.
 pub(crate) enum LineEnd {
@@ -25,16 +25,23 @@ pub(crate) enum LineEnd {
     Missing,
 }
 
-// The end of the line that starts at `at`: a line feed among its first 21 bytes.
+// What reading a line hands back: the answer, the plan afterwards, and where the next line starts.
+pub(crate) struct LineRead {
+    pub outcome: Outcome,
+    pub plan: Plan,
+    pub next: usize,
+}
+
+// The end of the line that starts at `at`: a line feed behind at most the bytes of a line.
 fn line_end(text: &[u8], at: usize) -> LineEnd
     requires { ⌜ at ≤ length (now text) ⌝ }
     ensures { λ r. ⌜ r ≡ lineEnd at (firstLine (drop at (now (text .entry)))) ⌝ }
 {
-    for i in 0..21 {
+    for i in 0..TextLimits::LINE + 1 {
         if text.len() - at <= i {
             return LineEnd::Missing;
         }
-        if text[at + i] == 10 {
+        if text[at + i] == b'\n' {
             return LineEnd::At(at + i);
         }
     }
@@ -48,7 +55,7 @@ fn field_end(line: &[u8], at: usize) -> usize
 {
     let mut k = at;
     while k < line.len() {
-        if line[k] == 9 {
+        if line[k] == b'\t' {
             return k;
         }
         k += 1;
@@ -56,25 +63,16 @@ fn field_end(line: &[u8], at: usize) -> usize
     k
 }
 
-// Enters three fields: tests 2, 3, then those of appending.
+// Enters three fields: tests 2, 3, 7, 4, 5.
 fn enter_fields(plan: Plan, name: &[u8], x: &[u8], y: &[u8]) -> Planned
     requires { ⌜ Valid plan ⌝ }
     ensures answer { λ r. ⌜ r ≡ plannedOr plan (enteredFields (sitesIn plan)
         (now (name .entry) ∷ now (x .entry) ∷ now (y .entry) ∷ [])) ⌝ }
     ensures valid { λ r. ⌜ Valid (r .plan) ⌝ }
 {
-    let named = name_from(name);
-    if !named.ok {
-        return refuse(plan, Refusal::Name);
-    }
-    let Coordinate::At(across) = coordinate_from(x) else {
-        return refuse(plan, Refusal::Coordinate);
-    };
-    let Coordinate::At(up) = coordinate_from(y) else {
-        return refuse(plan, Refusal::Coordinate);
-    };
-    let site = named.name;
-    append(plan, site, Place { x: across, y: up })
+    let site_name = name_from(name);
+    let site_place = place_at(coordinate_from(x), coordinate_from(y));
+    enter_read(plan, site_name, site_place)
 }
 
 // Enters a line, without its line feed: test 1 for its fields, then theirs.
@@ -101,6 +99,28 @@ fn enter_line(plan: Plan, line: &[u8]) -> Planned
     enter_fields(plan, &line[..first], &line[from_x..second], &line[from_y..])
 }
 
+// Reads the line that starts at `at`: test 1 for its end, then those of entering it.
+fn read_line(plan: Plan, text: &[u8], at: usize) -> LineRead
+    requires { ⌜ Valid plan × (at ≤ length (now text)) ⌝ }
+    ensures { λ r. ⌜ r ≡ lineRead plan at (firstLine (drop at (now (text .entry)))) ⌝ }
+{
+    let LineEnd::At(end) = line_end(text, at) else {
+        return LineRead {
+            outcome: Outcome::Refused(Refusal::Line),
+            plan,
+            next: at,
+        };
+    };
+    let entered = enter_line(plan, &text[at..end]);
+    let outcome = entered.outcome;
+    let after = entered.plan;
+    LineRead {
+        outcome,
+        plan: after,
+        next: end + 1,
+    }
+}
+
 // Reads a whole list into a fresh plan, or refuses it at its first refused line.
 pub fn read(text: &[u8]) -> Planned
     ensures answer { λ r. ⌜ r ≡ readFrom (now (text .entry)) ⌝ }
@@ -110,17 +130,14 @@ pub fn read(text: &[u8]) -> Planned
     let mut plan = Plan::start();
     let mut at = 0;
     while at < text.len() {
-        let LineEnd::At(end) = line_end(text, at) else {
-            return refuse(Plan::start(), Refusal::Line);
-        };
-        let entered = enter_line(plan, &text[at..end]);
-        let outcome = entered.outcome;
+        let line = read_line(plan, text, at);
+        let outcome = line.outcome;
         if let Outcome::Refused(why) = outcome {
             return refuse(Plan::start(), why);
         }
-        let more = entered.plan;
+        let more = line.plan;
         plan = more;
-        at = end + 1;
+        at = line.next;
     }
     Planned {
         outcome: Outcome::Done,

@@ -1,12 +1,12 @@
 // A site's name: 1 to 8 bytes, each A to Z, 0 to 9 or hyphen.
 ghost use mathlib.Core.Path.{_≡_};
 ghost use Prim.Native.Nat.{_≤_};
-ghost use Rattle.plan.specs.rules.Name.{nameByte, sameBytes, bytesOf, nameOf};
-ghost use Rattle.plan.specs.code.NameRead.{nameRead, noName};
+ghost use Rattle.plan.specs.rules.Name.{nameByte, sameBytes, bytesOf, mostNameBytes};
+ghost use Rattle.plan.specs.code.NameRead.{nameRead, noName, noRead};
 
 // The bytes of a name from the front, zeros past them.
 pub struct Name {
-    pub bytes: [u8; 8],
+    pub bytes: [u8; Name::LONGEST],
     pub len: usize,
 }
 
@@ -17,13 +17,28 @@ pub(crate) struct NameRead {
 }
 
 impl Name {
+    // The most bytes of a name.
+    pub const LONGEST: usize = 8;
+
     // The name of an empty slot.
     pub(crate) fn none() -> Name
         ensures { λ r. ⌜ r ≡ noName ⌝ }
     {
         Name {
-            bytes: [0u8; 8],
+            bytes: [0u8; Name::LONGEST],
             len: 0,
+        }
+    }
+}
+
+impl NameRead {
+    // No name.
+    fn none() -> NameRead
+        ensures { λ r. ⌜ r ≡ noRead ⌝ }
+    {
+        NameRead {
+            ok: false,
+            name: Name::none(),
         }
     }
 }
@@ -31,19 +46,19 @@ impl Name {
 fn is_name_byte(b: u8) -> bool
     ensures { λ r. ⌜ r ≡ nameByte b ⌝ }
 {
-    if b == 45 {
+    if b == b'-' {
         return true;
     }
-    if b < 48 {
+    if b < b'0' {
         return false;
     }
-    if b <= 57 {
+    if b <= b'9' {
         return true;
     }
-    if b < 65 {
+    if b < b'A' {
         return false;
     }
-    b <= 90
+    b <= b'Z'
 }
 
 // The name that a text is, if it is one.
@@ -52,25 +67,16 @@ pub(crate) fn name_from(text: &[u8]) -> NameRead
 {
     let n = text.len();
     if n == 0 {
-        return NameRead {
-            ok: false,
-            name: Name::none(),
-        };
+        return NameRead::none();
     }
-    if n > 8 {
-        return NameRead {
-            ok: false,
-            name: Name::none(),
-        };
+    if n > Name::LONGEST {
+        return NameRead::none();
     }
-    let mut bytes = [0u8; 8];
+    let mut bytes = [0u8; Name::LONGEST];
     for i in 0..n {
         let b = text[i];
         if !is_name_byte(b) {
-            return NameRead {
-                ok: false,
-                name: Name::none(),
-            };
+            return NameRead::none();
         }
         bytes[i] = b;
     }
@@ -80,7 +86,7 @@ pub(crate) fn name_from(text: &[u8]) -> NameRead
 
 // Whether two names are the same.
 pub(crate) fn same_name(a: Name, b: Name) -> bool
-    requires { ⌜ (a .len ≤ 8) × (b .len ≤ 8) ⌝ }
+    requires { ⌜ (a .len ≤ mostNameBytes) × (b .len ≤ mostNameBytes) ⌝ }
     ensures { λ r. ⌜ r ≡ sameBytes (bytesOf a) (bytesOf b) ⌝ }
 {
     let n = a.len;

@@ -1,14 +1,76 @@
 // Coordinates as they are written in a list.
 use placing::units::Limits;
+use placing::units::Place;
 use placing::units::Units;
 ghost use mathlib.Core.Path.{_≡_};
+ghost use mathlib.Core.Option.{some};
+ghost use mathlib.Core.List.{[], _∷_};
+ghost use Prim.Native.Nat.{_≤_};
+ghost use Rattle.placing.specs.rules.Units.{greatestCoordinate};
 ghost use Rattle.plan.specs.rules.Number.{coordinateIn, digitsAfter, asCoordinate};
-ghost use Rattle.plan.specs.code.Coordinate.{coordinateRead};
+ghost use Rattle.plan.specs.code.Coordinate.{coordinateRead, placeRead};
+
+// The digit 0; the others follow it.
+pub(crate) const ZERO: u32 = b'0' as u32;
 
 // A coordinate, where the text is one.
 pub(crate) enum Coordinate {
     At(Units),
     Nowhere,
+}
+
+// A place, where both its coordinates are there; else the place 0, 0.
+pub(crate) struct PlaceRead {
+    pub ok: bool,
+    pub place: Place,
+}
+
+// A number as a coordinate.
+pub(crate) fn coordinate_at(n: u64) -> Coordinate
+    ensures { λ r. ⌜ r ≡ coordinateRead (asCoordinate (some n)) ⌝ }
+{
+    if n > Limits::COORDINATE as u64 {
+        return Coordinate::Nowhere;
+    }
+    Coordinate::At(Units(n as u32))
+}
+
+// The place of two coordinates.
+pub(crate) fn place_at(x: Coordinate, y: Coordinate) -> PlaceRead
+    ensures { λ r. ⌜ r ≡ placeRead x y ⌝ }
+{
+    let none = PlaceRead {
+        ok: false,
+        place: Place {
+            x: Units(0),
+            y: Units(0),
+        },
+    };
+    let Coordinate::At(across) = x else {
+        return none;
+    };
+    let Coordinate::At(up) = y else {
+        return none;
+    };
+    PlaceRead {
+        ok: true,
+        place: Place { x: across, y: up },
+    }
+}
+
+// A number with one digit more, where it is a digit and the number stays in range.
+fn with_digit(value: u32, b: u8) -> Coordinate
+    requires { ⌜ value ≤ greatestCoordinate ⌝ }
+    ensures { λ r. ⌜ r ≡ coordinateRead (asCoordinate (digitsAfter value (b ∷ []))) ⌝ }
+{
+    if b < b'0' {
+        return Coordinate::Nowhere;
+    }
+    if b > b'9' {
+        return Coordinate::Nowhere;
+    }
+    let more = value * 10 + (b as u32 - ZERO);
+    coordinate_at(more as u64)
 }
 
 // The number that the digits of a text write, up to the greatest coordinate.
@@ -17,17 +79,10 @@ fn digits_from(text: &[u8]) -> Coordinate
 {
     let mut value = 0u32;
     for i in 0..text.len() {
-        let b = text[i];
-        if b < 48 {
+        let Coordinate::At(more) = with_digit(value, text[i]) else {
             return Coordinate::Nowhere;
-        }
-        if b > 57 {
-            return Coordinate::Nowhere;
-        }
-        value = value * 10 + (b as u32 - 48);
-        if value > Limits::COORDINATE {
-            return Coordinate::Nowhere;
-        }
+        };
+        value = more.0;
     }
     Coordinate::At(Units(value))
 }
@@ -40,7 +95,7 @@ pub(crate) fn coordinate_from(text: &[u8]) -> Coordinate
         return Coordinate::Nowhere;
     }
     if text.len() > 1 {
-        if text[0] == 48 {
+        if text[0] == b'0' {
             return Coordinate::Nowhere;
         }
     }

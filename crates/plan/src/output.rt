@@ -1,5 +1,6 @@
 // The whole way from a list to the bytes that the placing program writes.
 use crate::calls::place;
+use crate::limits::TextLimits;
 use crate::list::read;
 use crate::plan::Written;
 use crate::put::put_byte;
@@ -24,7 +25,7 @@ fn write_refusal(why: Refusal, buffer: &mut [u8]) -> Written
     let number = number_of(why);
     let word = put_bytes(&mut line, 0, b"refused\t", 8);
     let digits = put_decimal(&mut line, word, number as u32);
-    let n = put_byte(&mut line, digits, 10);
+    let n = put_byte(&mut line, digits, b'\n');
     if buffer.len() < n {
         return Written::NotWritten(Refusal::ShortBuffer);
     }
@@ -46,7 +47,7 @@ pub fn output(text: &[u8], buffer: &mut [u8]) -> Written
     if let Outcome::Refused(why) = reading {
         return write_refusal(why, buffer);
     }
-    let mut table = [0u8; 57600];
+    let mut table = [0u8; TextLimits::TABLE];
     let level = listed.plan;
     let placed = place(level, &mut table);
     let placing = placed.outcome;

@@ -1,6 +1,8 @@
 // A plan: the sites of one level in list order and, once it is placed, its answer.
 use crate::name::Name;
+use crate::name::NameRead;
 use crate::name::same_name;
+use crate::number::PlaceRead;
 use crate::refusal::Outcome;
 use crate::refusal::Refusal;
 use placing::units::Limits;
@@ -8,25 +10,24 @@ use placing::units::Place;
 use placing::units::Side;
 use placing::units::Units;
 ghost use mathlib.Core.Path.{_≡_};
-ghost use mathlib.Core.Bool.{true};
 ghost use Prim.Native.Nat.{_≤_};
-ghost use lib.ListN.{length};
-ghost use Rattle.placing.specs.rules.Units.{OnPlan};
-ghost use Rattle.plan.specs.rules.Name.{isName, bytesOf, nameOf};
-ghost use Rattle.plan.specs.rules.Enter.{appended};
+ghost use Rattle.placing.specs.rules.Units.{samePlace};
+ghost use Rattle.plan.specs.rules.Name.{bytesOf, mostNameBytes};
 ghost use Rattle.plan.specs.rules.Plan.{sitesIn, Valid};
 ghost use Rattle.plan.specs.rules.Calls.{started, plannedOr};
-ghost use Rattle.plan.specs.code.Taken.{ShortNames, namesTaken, placesTaken, siteOf};
+ghost use Rattle.plan.specs.code.Taken.{ShortNames, namesTaken, placesTaken};
+ghost use Rattle.plan.specs.code.Entering.{NameFits, PlaceFits, enteredRead, firstFailed};
+ghost use Rattle.placing.specs.rules.Units.{mostSites};
 
 // Slots past the count hold nothing: a name of no bytes, the place 0, 0 and corner 0. While a plan is not placed, its side is
 // free and its corners are 0.
 pub struct Plan {
     pub count: usize,
-    pub names: [Name; 240],
-    pub places: [Place; 240],
+    pub names: [Name; Limits::SITES],
+    pub places: [Place; Limits::SITES],
     pub placed: bool,
     pub side: Side,
-    pub corners: [u8; 240],
+    pub corners: [u8; Limits::SITES],
 }
 
 // What entering, reading and placing hand back: the answer, and the plan afterwards.
@@ -66,11 +67,11 @@ impl Plan {
         };
         Plan {
             count: 0,
-            names: [none; 240],
-            places: [nowhere; 240],
+            names: [none; Limits::SITES],
+            places: [nowhere; Limits::SITES],
             placed: false,
             side: Side::Free,
-            corners: [0u8; 240],
+            corners: [0u8; Limits::SITES],
         }
     }
 }
@@ -84,8 +85,8 @@ pub(crate) fn refuse(plan: Plan, why: Refusal) -> Planned
 }
 
 // Whether one of the first `n` names is this one.
-fn name_taken(names: [Name; 240], n: usize, name: Name) -> bool
-    requires { ⌜ (n ≤ 240) × ShortNames n names × (name .len ≤ 8) ⌝ }
+fn name_taken(names: [Name; Limits::SITES], n: usize, name: Name) -> bool
+    requires { ⌜ (n ≤ mostSites) × ShortNames n names × (name .len ≤ mostNameBytes) ⌝ }
     ensures { λ r. ⌜ r ≡ namesTaken n names (bytesOf name) ⌝ }
 {
     for i in 0..n {
@@ -97,49 +98,78 @@ fn name_taken(names: [Name; 240], n: usize, name: Name) -> bool
     false
 }
 
+// Whether two places are the same.
+fn same_place(a: Place, b: Place) -> bool
+    ensures { λ r. ⌜ r ≡ samePlace a b ⌝ }
+{
+    if a.x.0 != b.x.0 {
+        return false;
+    }
+    a.y.0 == b.y.0
+}
+
 // Whether one of the first `n` places is this one.
-fn place_taken(places: [Place; 240], n: usize, place: Place) -> bool
-    requires { ⌜ n ≤ 240 ⌝ }
+fn place_taken(places: [Place; Limits::SITES], n: usize, place: Place) -> bool
+    requires { ⌜ n ≤ mostSites ⌝ }
     ensures { λ r. ⌜ r ≡ placesTaken n places place ⌝ }
 {
     for i in 0..n {
         let other = places[i];
-        if other.x.0 == place.x.0 {
-            if other.y.0 == place.y.0 {
-                return true;
-            }
+        if same_place(other, place) {
+            return true;
         }
     }
     false
 }
 
-// The plan with one site more: tests 7, 4, 5. The plan is not placed afterwards.
-pub(crate) fn append(plan: Plan, name: Name, place: Place) -> Planned
-    requires { ⌜ Valid plan × (name ≡ nameOf (bytesOf name)) × (isName (bytesOf name) ≡ true) × OnPlan place ⌝ }
-    ensures answer { λ r. ⌜ r ≡ plannedOr plan (appended (sitesIn plan) (siteOf name place)) ⌝ }
+// The order of document 01's tests, 2, 3, 7, 4, 5, over which of them fail.
+fn first_failed(unnamed: bool, outside: bool, full: bool, named: bool, placed: bool) -> Outcome
+    ensures { λ r. ⌜ r ≡ firstFailed unnamed outside full named placed ⌝ }
+{
+    if unnamed {
+        return Outcome::Refused(Refusal::Name);
+    }
+    if outside {
+        return Outcome::Refused(Refusal::Coordinate);
+    }
+    if full {
+        return Outcome::Refused(Refusal::Full);
+    }
+    if named {
+        return Outcome::Refused(Refusal::NameTaken);
+    }
+    if placed {
+        return Outcome::Refused(Refusal::PlaceTaken);
+    }
+    Outcome::Done
+}
+
+// The plan with one site more, whose name and place were read. The plan is not placed afterwards.
+pub(crate) fn enter_read(plan: Plan, name: NameRead, place: PlaceRead) -> Planned
+    requires { ⌜ Valid plan × NameFits name × PlaceFits place ⌝ }
+    ensures answer { λ r. ⌜ r ≡ plannedOr plan (enteredRead (sitesIn plan) name place) ⌝ }
     ensures valid { λ r. ⌜ Valid (r .plan) ⌝ }
 {
     let n = plan.count;
-    if n >= Limits::SITES {
-        return refuse(plan, Refusal::Full);
-    }
     let mut names = plan.names;
-    if name_taken(names, n, name) {
-        return refuse(plan, Refusal::NameTaken);
-    }
     let mut places = plan.places;
-    if place_taken(places, n, place) {
-        return refuse(plan, Refusal::PlaceTaken);
+    let called = name.name;
+    let spot = place.place;
+    let named = name_taken(names, n, called);
+    let placed = place_taken(places, n, spot);
+    let outcome = first_failed(!name.ok, !place.ok, n >= Limits::SITES, named, placed);
+    if let Outcome::Refused(why) = outcome {
+        return refuse(plan, why);
     }
-    names[n] = name;
-    places[n] = place;
+    names[n] = called;
+    places[n] = spot;
     let more = Plan {
         count: n + 1,
         names,
         places,
         placed: false,
         side: Side::Free,
-        corners: [0u8; 240],
+        corners: [0u8; Limits::SITES],
     };
     Planned {
         outcome: Outcome::Done,

@@ -1,11 +1,11 @@
 // Writing text into a buffer: each function writes at a place and gives the place after it.
 use crate::name::Name;
-ghost use mathlib.Core.Path.{_≡_};
+use crate::number::ZERO;
 ghost use Prim.Native.Nat.{_+_, _≤_, _<_};
 ghost use mathlib.Core.List.{[], _∷_};
 ghost use lib.ListN.{length, take};
 ghost use Rattle.plan.specs.rules.Number.{decimal};
-ghost use Rattle.plan.specs.rules.Name.{bytesOf};
+ghost use Rattle.plan.specs.rules.Name.{bytesOf, mostNameBytes};
 ghost use Rattle.plan.specs.code.Put.{Put};
 
 // One byte.
@@ -30,7 +30,7 @@ pub(crate) fn put_bytes(out: &mut [u8], at: usize, text: &[u8], n: usize) -> usi
 
 // The bytes of a name.
 pub(crate) fn put_name(out: &mut [u8], at: usize, name: Name) -> usize
-    requires { ⌜ (name .len ≤ 8) × (at + name .len ≤ length (now out)) ⌝ }
+    requires { ⌜ (name .len ≤ mostNameBytes) × (at + name .len ≤ length (now out)) ⌝ }
     ensures { λ r. ⌜ Put (now (out .entry)) at (bytesOf name) r (now (out .exit)) ⌝ }
 {
     let n = name.len;
@@ -44,8 +44,8 @@ pub(crate) fn put_decimal(out: &mut [u8], at: usize, n: u32) -> usize
     ensures { λ r. ⌜ Put (now (out .entry)) at (decimal n) r (now (out .exit)) ⌝ }
 {
     if n < 10 {
-        return put_byte(out, at, (48 + n) as u8);
+        return put_byte(out, at, (ZERO + n) as u8);
     }
     let next = put_decimal(out, at, n / 10);
-    put_byte(out, next, (48 + n % 10) as u8)
+    put_byte(out, next, (ZERO + n % 10) as u8)
 }

@@ -21,7 +21,7 @@ use Rattle.plan.specs.rules.Enter.{Sites, accepted, refused}
 use Rattle.plan.specs.rules.List.{readList, read-listed}
 use Rattle.plan.specs.rules.Sheet.{sheetOf, sheet-shortest}
 use Rattle.plan.specs.rules.Plan.{unplaced}
-use Rattle.plan.specs.rules.Calls.{plannedOr, started, readFrom, placedIn, written, bufferAfter, filledWhere}
+use Rattle.plan.specs.rules.Calls.{plannedOr, started, readFrom, placedIn, written, bufferAfter, filledWhere, fullTable}
 use Rattle.plan.specs.rules.Output.{outputOf, outputWhere, output-sheet}
 use Rattle.plan.specs.code.Filling.{place-refused, place-done, sheet-filled, Filled}
 use Rattle.sheet_call.specs.Call.{Called, Told, refusal, sheetIn, calledFor, called, call-told}
@@ -73,7 +73,7 @@ filled-called sheet buffer filled =
     by-room false = refl
 
 -- A list that is read, and placed with a table for every plan.
-module _ (list buffer table : List ℕ) {listed done : Planned} (size : length table ≡ 57600) (listed-is : listed ≡ readFrom list)
+module _ (list buffer table : List ℕ) {listed done : Planned} (size : length table ≡ fullTable) (listed-is : listed ≡ readFrom list)
     (is-read : listed .outcome ≡ Done) (done-is : done ≡ placedIn (listed .plan) table) where
   -- How placing ends, from the list.
   ends : {end : Outcome} → done .outcome ≡ end → placedIn (plannedOr started (readList list) .plan) table .outcome ≡ end

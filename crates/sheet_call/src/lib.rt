@@ -1,5 +1,6 @@
 // For callers in C and Rust: from the bytes of a list to the bytes of its sheet in one call. `callers/lemoncanyon.h` declares it.
 use plan::calls::place;
+use plan::limits::TextLimits;
 use plan::list::read;
 use plan::plan::Written;
 use plan::refusal::Outcome;
@@ -21,7 +22,7 @@ pub extern "C" fn lemoncanyon_sheet(list: &[u8], buffer: &mut [u8]) -> usize
     if let Outcome::Refused(why) = reading {
         return number_of(why) as usize;
     }
-    let mut table = [0u8; 57600];
+    let mut table = [0u8; TextLimits::TABLE];
     let level = listed.plan;
     let placed = place(level, &mut table);
     let placing = placed.outcome;

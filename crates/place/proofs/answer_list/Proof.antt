@@ -5,6 +5,7 @@ use lib.Seq.{length-take-le}
 use mathlib.Core.Path.{sym}
 use Rattle.plan.specs.code.Within.{output-within}
 use borrow.Author.Needs.{needs}
+use Rattle.plan.specs.rules.Sheet.{longestSheet}
 use Rattle.place.proofs.answer_list.Statement.{statement}
 use Rattle.place.proofs.answer_list.Tie as tie
 
@@ -24,7 +25,7 @@ write-output-requires : tie.Need-write-output-requires
 write-output-requires c κs =
     let start = c .before .before .before .before .before .before in
     let at-output = c .before .before .output in
-    output-within (take (start .args .reading .at) (start .args .text .now)) (replicate 5531 0)
+    output-within (take (start .args .reading .at) (start .args .text .now)) (replicate longestSheet 0)
     (at-output .ensures .0) (at-output .ensures .1 .0)
 
 returns : tie.Need-returns

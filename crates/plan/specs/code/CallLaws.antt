@@ -2,15 +2,13 @@
 -- Assumes nothing.
 use mathlib.Core.Path.{_≡_, refl, sym, ap, ap₂, _∙_, subst}
 use mathlib.Core.Bool.{Bool, true, false, false≢true}
-use mathlib.Core.List.{List, [], _∷_, _++_}
+use mathlib.Core.List.{List, _++_}
 use Prim.Native.Nat.{ℕ, _*_, _≤_, _<_}
 use native.Mathlib.Omega.{arith}
 use borrow.Author.Tests.{eq-eqb, ne-eqb, lt-ltb, le-ltb, le-leb, lt-leb}
 use lib.Dec.{leb}
 use lib.ListN.{length, getD, drop, replicate}
-use Rattle.placing.specs.rules.Units.{greatestCoordinate}
 use Rattle.placing.specs.rules.Choice.{cornerAt}
-use Rattle.plan.specs.declared.name.NameRead.{NameRead}
 use Rattle.plan.specs.declared.refusal.Outcome.the-variants.{Done, Refused}
 use Rattle.plan.specs.declared.refusal.Refusal.{Refusal}
 use Rattle.plan.specs.declared.refusal.Refusal.the-variants as refusal
@@ -18,10 +16,8 @@ use Rattle.plan.specs.declared.plan.Plan.{Plan}
 use Rattle.plan.specs.declared.plan.Planned.{Planned}
 use Rattle.plan.specs.declared.plan.AskedSide.the-variants.{SideIs, NoSide}
 use Rattle.plan.specs.declared.plan.AskedCorner.the-variants.{CornerIs, NoCorner}
-use Rattle.plan.specs.rules.Name.{bytesOf, nameOf, isName, name-short, name-held}
-use Rattle.plan.specs.code.NameRead.{nameRead, nameWhere}
-use Rattle.plan.specs.rules.Site.{Site, placeAt, nameTaken, placeTaken, Listed}
-use Rattle.plan.specs.rules.Enter.{Sites, accepted, refused, appended, entered}
+use Rattle.plan.specs.rules.Site.{Site, Listed}
+use Rattle.plan.specs.rules.Enter.{Sites, accepted, refused}
 use Rattle.plan.specs.rules.Plan.{unplaced, placed, sitesIn, sites-unplaced, sites-placed, Valid, is-unplaced, is-placed}
 use Rattle.plan.specs.rules.Calls.{plannedOr, placedIn, tableAfter, clearedWhere, answerFor, sideWhere, sideAsked, cornerWhere, cornerAsked}
 use Rattle.plan.specs.rules.Calls.{outcomeNumber, placeNumber}
@@ -47,67 +43,6 @@ accepts plan {after} {sites} {more} listed same is-accepted = (
   ap {B = Planned} (λ (p : Plan). record { outcome = Done; plan = p }) same ∙ sym (ap (plannedOr plan) is-accepted),
   subst Valid (sym same) (is-unplaced more listed),
 )
-
--- ---- one site more: tests 7, 4, 5
-
-module _ (sites : List Site) (site : Site) where
-  -- 240 sites stand.
-  pub appended-full : 240 ≤ length sites → appended sites site ≡ refused refusal.Full
-  unfolding appended
-  appended-full full = rw (le-leb 240 (length sites) full)
-
-  -- The name is taken.
-  pub appended-named : length sites < 240 → nameTaken sites (site .name) ≡ true → appended sites site ≡ refused refusal.NameTaken
-  unfolding appended
-  appended-named room taken = rw (lt-leb 240 (length sites) room, taken)
-
-  -- The place is taken.
-  pub appended-placed : length sites < 240 → nameTaken sites (site .name) ≡ false → placeTaken sites (site .place) ≡ true
-      → appended sites site ≡ refused refusal.PlaceTaken
-  unfolding appended
-  appended-placed room free taken = rw (lt-leb 240 (length sites) room, free, taken)
-
-  -- None of these: the site stands last.
-  pub appended-last : length sites < 240 → nameTaken sites (site .name) ≡ false → placeTaken sites (site .place) ≡ false
-      → appended sites site ≡ accepted (sites ++ (site ∷ []))
-  unfolding appended
-  appended-last room free open-place = rw (lt-leb 240 (length sites) room, free, open-place)
-
--- ---- entering: tests 2, 3, then these
-
-module _ (sites : List Site) (name : List ℕ) (x y : ℕ) where
-  -- The name is outside the rule.
-  pub entered-unnamed : isName name ≡ false → entered sites name x y ≡ refused refusal.Name
-  unfolding entered
-  entered-unnamed no-name = rw no-name
-
-  -- x is outside the rule,
-  pub entered-far-x : isName name ≡ true → greatestCoordinate < x → entered sites name x y ≡ refused refusal.Coordinate
-  unfolding entered
-  entered-far-x named far = rw (named, lt-leb x greatestCoordinate far)
-
-  -- or y is.
-  pub entered-far-y : isName name ≡ true → x ≤ greatestCoordinate → greatestCoordinate < y → entered sites name x y ≡ refused refusal.Coordinate
-  unfolding entered
-  entered-far-y named near far = rw (named, le-leb x greatestCoordinate near, lt-leb y greatestCoordinate far)
-
-  -- None of these: one site more.
-  pub entered-near : isName name ≡ true → x ≤ greatestCoordinate → y ≤ greatestCoordinate
-      → entered sites name x y ≡ appended sites (record { name = name; place = placeAt x y })
-  unfolding entered
-  entered-near named near-x near-y = rw (named, le-leb x greatestCoordinate near-x, le-leb y greatestCoordinate near-y)
-
--- What was read is a name where the bytes are one,
-pub read-ok : {read : NameRead} (bytes : List ℕ) → read ≡ nameRead bytes → isName bytes ≡ read .ok
-read-ok bytes same = sym (ap (λ (r : NameRead). r .ok) same)
-
--- and then it is the record of this name
-pub read-name : {read : NameRead} (bytes : List ℕ) → read ≡ nameRead bytes → isName bytes ≡ true → read .name ≡ nameOf bytes
-read-name {read} bytes same named = ap (λ (r : NameRead). r .name) same ∙ ap (λ (b : Bool). nameWhere b bytes) named
-
--- and holds these bytes.
-pub read-bytes : {read : NameRead} (bytes : List ℕ) → read ≡ nameRead bytes → isName bytes ≡ true → bytesOf (read .name) ≡ bytes
-read-bytes {read} bytes same named = ap bytesOf (read-name bytes same named) ∙ name-held bytes (name-short bytes named)
 
 -- ---- placing: tests 8, 11
 

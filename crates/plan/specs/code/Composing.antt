@@ -12,7 +12,7 @@ use lib.Seq.{take-length}
 use Rattle.placing.specs.declared.units.Place.{Place}
 use Rattle.placing.specs.declared.units.Side.{Side}
 use Rattle.placing.specs.declared.units.Side.the-variants.{Number, Free}
-use Rattle.placing.specs.rules.Units.{OnPlan, nowhere, xOf, yOf}
+use Rattle.placing.specs.rules.Units.{OnPlan, nowhere, xOf, yOf, mostSites}
 use Rattle.placing.specs.rules.Corner.{Corner}
 use Rattle.placing.specs.rules.Choice.{Corners}
 use Rattle.placing.specs.rules.Answer.{Answer, answerOf, IsAnswer, is-free, is-number, answer-is}
@@ -20,11 +20,11 @@ use Rattle.plan.specs.declared.name.Name.{Name}
 use Rattle.plan.specs.declared.plan.Plan.{Plan}
 use Rattle.plan.specs.rules.Text.{tab, lineFeed}
 use Rattle.plan.specs.rules.Number.{decimal, decimal-short, decimal-digit}
-use Rattle.plan.specs.rules.Name.{bytesOf, name-short, name-held}
+use Rattle.plan.specs.rules.Name.{bytesOf, name-short, name-held, mostNameBytes}
 use Rattle.plan.specs.rules.Site.{Site, placeOf, placesOf, noSite, Listed, place-at}
 use Rattle.plan.specs.rules.List.{listLine}
-use Rattle.plan.specs.rules.Sheet.{sideText, siteLines, sheetWith, sheetOf, answer-corners}
-use Rattle.plan.specs.code.SheetParts.{sideLineEnded, siteLineEnded, SideSmall}
+use Rattle.plan.specs.rules.Sheet.{sideText, siteLines, sheetWith, sheetOf, answer-corners, longestSideLine, longestSiteLine, longestSheet}
+use Rattle.plan.specs.code.SheetParts.{sideLineEnded, siteLineEnded, SideSmall, pastNames, siteHeld, lineHeld}
 use Rattle.plan.specs.code.Taken.{siteOf}
 use Rattle.plan.specs.rules.Plan.{nameRecord, placed, unplaced, sitesIn, sites-placed, Valid, is-placed, is-unplaced}
 use Rattle.plan.specs.code.Put.{Put}
@@ -38,7 +38,7 @@ side-text-short (Number h) small = decimal-short (h .0) (omega arith)
 side-text-short Free small = omega arith
 
 -- A name is no longer than its record says.
-pub name-text-short : (name : Name) → name .len ≤ 8 → length (bytesOf name) ≤ 8
+pub name-text-short : (name : Name) → name .len ≤ mostNameBytes → length (bytesOf name) ≤ mostNameBytes
 name-text-short name short = rw length-take (omega arith)
 
 -- A corner is one byte.
@@ -46,12 +46,12 @@ pub corner-text-short : (corner : ℕ) → Corner corner → length (decimal cor
 corner-text-short corner is = rw (decimal-digit corner (omega arith)) (omega arith)
 
 -- So the first line is at most 11 bytes,
-pub side-line-short : (side : Side) → SideSmall side → length (sideLineEnded side) ≤ 11
+pub side-line-short : (side : Side) → SideSmall side → length (sideLineEnded side) ≤ longestSideLine
 side-line-short side small = let short = side-text-short side small in simp length-append (omega arith)
 
 -- and the line of a site at most 23.
-site-line-short : (name : Name) (place : Place) (corner : ℕ) → name .len ≤ 8 → OnPlan place → Corner corner
-    → length (siteLineEnded (siteOf name place) corner) ≤ 23
+site-line-short : (name : Name) (place : Place) (corner : ℕ) → name .len ≤ mostNameBytes → OnPlan place → Corner corner
+    → length (siteLineEnded (siteOf name place) corner) ≤ longestSiteLine
 unfolding listLine
 site-line-short name place corner short on is =
     let name-short = name-text-short name short in
@@ -98,27 +98,19 @@ line-parts site corner = simp append-assoc
 
 -- ---- a placed plan, site by site
 
--- The name that stands past the last of an array: nothing depends on it.
-abbrev pub pastNames : Name
-pastNames = record { bytes = []; len = 0 }
-
 -- The lines of the first i sites of a plan.
 pub linesTo : Plan → ℕ → List ℕ
 linesTo plan i = siteLines (take i (sitesIn plan)) (plan .corners)
 
--- The site that a plan's arrays hold at a number.
-abbrev pub siteHeld : Plan → ℕ → Site
-siteHeld plan i = siteOf (getD (plan .names) i pastNames) (getD (plan .places) i nowhere)
-
 -- What a sheet is written from: each site and corner fits its line, each line adds to those before it, and all are the sheet.
 pub record Printable (plan : Plan) : Type 0 where
-  pub few : plan .count ≤ 240
+  pub few : plan .count ≤ mostSites
   pub side-small : SideSmall (plan .side)
-  pub name-fits : (i : ℕ) → i < plan .count → getD (plan .names) i pastNames .len ≤ 8
+  pub name-fits : (i : ℕ) → i < plan .count → getD (plan .names) i pastNames .len ≤ mostNameBytes
   pub on-plan : (i : ℕ) → i < plan .count → OnPlan (getD (plan .places) i nowhere)
   pub corner : (i : ℕ) → i < plan .count → Corner (getD (plan .corners) i 0)
   pub no-line : linesTo plan 0 ≡ []
-  pub one-line : (i : ℕ) → i < plan .count → linesTo plan (suc i) ≡ linesTo plan i ++ siteLineEnded (siteHeld plan i) (getD (plan .corners) i 0)
+  pub one-line : (i : ℕ) → i < plan .count → linesTo plan (suc i) ≡ linesTo plan i ++ lineHeld plan i
   pub whole : sideLineEnded (plan .side) ++ linesTo plan (plan .count) ≡ sheetOf (sitesIn plan)
 
 -- What a list's elements were made to, with more behind it, at the number of an element.
@@ -226,7 +218,7 @@ printable (is-placed sites listed nonempty) placed = placed-printable sites list
 -- After the lines of the first i sites: no more than 23 bytes for each.
 pub record Composed (plan : Plan) (out₀ : List ℕ) (at₀ : ℕ) (out : List ℕ) (at i : ℕ) : Type 0 where
   pub counted : i ≤ plan .count
-  pub near : at ≤ at₀ + 23 * i
+  pub near : at ≤ at₀ + longestSiteLine * i
   pub lines : Put out₀ at₀ (linesTo plan i) at out
 
 -- Before the first line.
@@ -236,12 +228,12 @@ composed-start out at print =
 
 module _ {plan : Plan} {out₀ out : List ℕ} {at₀ at i : ℕ} (print : Printable plan) (so-far : Composed plan out₀ at₀ out at i) where
   -- There is room for the next line,
-  pub composed-room : at₀ ≤ 11 → 5531 ≤ length out₀ → i < plan .count → at + 23 ≤ length out
+  pub composed-room : at₀ ≤ longestSideLine → longestSheet ≤ length out₀ → i < plan .count → at + longestSiteLine ≤ length out
   composed-room after-side room more = omega (arith, so-far .near, print .few, put-length (so-far .lines))
 
   -- with it there is one line more,
   pub composed-more : {later : List ℕ} {next : ℕ} → i < plan .count
-      → Put out at (siteLineEnded (siteHeld plan i) (getD (plan .corners) i 0)) next later → Composed plan out₀ at₀ later next (i + 1)
+      → Put out at (lineHeld plan i) next later → Composed plan out₀ at₀ later next (i + 1)
   composed-more more put =
       record {
         counted = omega arith;

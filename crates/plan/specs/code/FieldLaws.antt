@@ -1,92 +1,113 @@
--- Laws on entering a line's three fields: what its name and its coordinates are read as, and what becomes of them.
+-- Laws on entering a name and two numbers: what they are read as, and what becomes of them.
 -- Assumes nothing.
-use mathlib.Core.Path.{_≡_, refl, sym, ap, ap₂, _∙_}
-use mathlib.Core.Bool.{Bool, true, false, not}
-use mathlib.Core.List.{List, [], _∷_}
+use mathlib.Core.Path.{_≡_, refl, sym, ap, _∙_}
+use mathlib.Core.Bool.{Bool, true, false, not, false≢true}
+use mathlib.Core.List.{List, [], _∷_, _++_}
 use mathlib.Core.Option.{Option, some, none}
 use Prim.Native.Nat.{ℕ}
+use native.Mathlib.Omega.{arith}
+use borrow.Author.Tests.{leb-true}
+use lib.Dec.{leb}
+use lib.ListN.{length}
 use Rattle.placing.specs.declared.units.Units.{Units}
-use Rattle.placing.specs.rules.Units.{OnAxis}
-use Rattle.plan.specs.declared.name.Name.{Name}
+use Rattle.placing.specs.rules.Units.{OnAxis, mostSites, greatestCoordinate}
 use Rattle.plan.specs.declared.name.NameRead.{NameRead}
+use Rattle.plan.specs.declared.number.Coordinate.{Coordinate}
 use Rattle.plan.specs.declared.number.Coordinate.the-variants.{At, Nowhere}
+use Rattle.plan.specs.declared.number.PlaceRead.{PlaceRead}
 use Rattle.plan.specs.declared.refusal.Refusal.the-variants as why
 use Rattle.plan.specs.declared.plan.Plan.{Plan}
 use Rattle.plan.specs.declared.plan.Planned.{Planned}
-use Rattle.plan.specs.rules.Number.{coordinateIn}
-use Rattle.plan.specs.rules.Name.{isName, nameOf, bytesOf}
-use Rattle.plan.specs.code.NameRead.{nameRead}
-use Rattle.plan.specs.code.Coordinate.{coordinateRead}
-use Rattle.plan.specs.rules.Site.{Site}
-use Rattle.plan.specs.code.Taken.{siteOf}
-use Rattle.plan.specs.rules.Enter.{Sites, refused, refusedIf, appended}
-use Rattle.plan.specs.rules.List.{withCoordinates, enteredFields, coordinate-is}
+use Rattle.plan.specs.rules.Number.{asCoordinate}
+use Rattle.plan.specs.rules.Name.{isName, nameOf, name-short, name-held}
+use Rattle.plan.specs.rules.Site.{Site, placeAt, nameTaken, placeTaken}
+use Rattle.plan.specs.rules.Enter.{Sites, refusedIf, tested, appended, entered}
+use Rattle.plan.specs.rules.List.{withCoordinates}
 use Rattle.plan.specs.rules.Plan.{Valid}
 use Rattle.plan.specs.rules.Calls.{plannedOr}
-use Rattle.plan.specs.code.CallLaws.{read-ok, read-name, read-bytes}
+use Rattle.plan.specs.theorems.Numbers.{coordinates-entered}
+use Rattle.plan.specs.code.NameRead.{nameRead, nameWhere}
+use Rattle.plan.specs.code.Coordinate.{coordinateRead, placeRead}
+use Rattle.plan.specs.code.Entering.{NameFits, PlaceFits, enteredRead}
 
 -- The answer of a call is one for sites that are the same.
 pub call-answers : {result : Planned} {there here : Sites} (plan : Plan) → (result ≡ plannedOr plan there) × Valid (result .plan)
     → here ≡ there → (result ≡ plannedOr plan here) × Valid (result .plan)
 call-answers plan answer same = (answer .0 ∙ ap (plannedOr plan) (sym same), answer .1)
 
--- The coordinate that is read, if one is.
-coordinate-at : (read : Option ℕ) (a : Units) → coordinateRead read ≡ At a → read ≡ some (a .0)
-coordinate-at none a e = cc
-coordinate-at (some n) a e = cc
+-- ---- what is read
 
-coordinate-none : (read : Option ℕ) → coordinateRead read ≡ Nowhere → read ≡ none
-coordinate-none none e = refl
-coordinate-none (some n) e = cc
+-- A name that is read fits.
+pub name-fits : (bytes : List ℕ) {read : NameRead} → read ≡ nameRead bytes → NameFits read
+name-fits bytes is = rw is (by-test (isName bytes) refl)
+  where
+    by-test : (b : Bool) → isName bytes ≡ b → NameFits (record { ok = b; name = nameWhere b bytes })
+    by-test true named =
+        record {
+          short = name-short bytes named;
+          held = λ ok. ap nameOf (sym (name-held bytes (name-short bytes named)));
+          named = λ ok. ap isName (name-held bytes (name-short bytes named)) ∙ named;
+        }
+    by-test false unnamed = record { short = omega arith; held = λ ok. absurd (false≢true ok); named = λ ok. absurd (false≢true ok) }
 
--- It is on the plan.
-pub coordinate-on : (text : List ℕ) (a : Units) → coordinateRead (coordinateIn text) ≡ At a → OnAxis a
-coordinate-on text a e = record { range = coordinate-is text (a .0) (coordinate-at (coordinateIn text) a e) .1 }
+-- A coordinate that is there is on its axis.
+coordinate-fits : (number : Option ℕ) (a : Units) → coordinateRead (asCoordinate number) ≡ At a → OnAxis a
+coordinate-fits none a is = let z : _≡_ {A = ℕ} 0 1 = cc in absurd (omega arith)
+coordinate-fits (some n) a is = by-test (leb n greatestCoordinate) refl is
+  where
+    by-test : (b : Bool) → leb n greatestCoordinate ≡ b → coordinateRead (elim b [ true ↦ some n | false ↦ none ]) ≡ At a → OnAxis a
+    by-test true fits is = let same : n ≡ a .0 = cc in record { range = omega (arith, leb-true n greatestCoordinate fits) }
+    by-test false far is = let z : _≡_ {A = ℕ} 0 1 = cc in absurd (omega arith)
 
--- What a name that is read is: the record of the bytes, which are a name.
-pub record NamedAs (bytes : List ℕ) (name : Name) : Type 0 where
-  pub named : isName bytes ≡ true
-  pub record-is : name ≡ nameOf bytes
-  pub bytes-are : bytesOf name ≡ bytes
+-- A place of two such coordinates fits.
+pub place-fits : (n m : Option ℕ) {x y : Coordinate} {read : PlaceRead} → x ≡ coordinateRead (asCoordinate n)
+    → y ≡ coordinateRead (asCoordinate m) → read ≡ placeRead x y → PlaceFits read
+place-fits n m {x} {y} x-is y-is is = rw is (of-both x y x-is y-is)
+  where
+    of-both : (x y : Coordinate) → x ≡ coordinateRead (asCoordinate n) → y ≡ coordinateRead (asCoordinate m) → PlaceFits (placeRead x y)
+    of-both Nowhere y x-is y-is = record { on-plan = λ ok. absurd (false≢true ok) }
+    of-both (At a) Nowhere x-is y-is = record { on-plan = λ ok. absurd (false≢true ok) }
+    of-both (At a) (At b) x-is y-is =
+        record { on-plan = λ ok. record { on-x = coordinate-fits n a (sym x-is); on-y = coordinate-fits m b (sym y-is) } }
 
--- A name that is read is so.
-pub name-read : (bytes : List ℕ) (read : NameRead) → read ≡ nameRead bytes → read .ok ≡ true → NamedAs bytes (read .name)
-name-read bytes read is ok =
-    let named : isName bytes ≡ true = read-ok bytes is ∙ ok in
-    record { named = named; record-is = read-name bytes is named; bytes-are = read-bytes bytes is named }
+-- ---- what becomes of it
 
--- ---- what becomes of three fields
+module _ (sites : List Site) (name : List ℕ) where
+  -- The tests for a name and two coordinates, and those behind them.
+  read-so : (x y : Option ℕ)
+      → refusedIf (not (isName name)) why.Name (withCoordinates x y sites name)
+      ≡ enteredRead sites (nameRead name) (placeRead (coordinateRead x) (coordinateRead y))
+  unfolding appended
+  read-so x y = by-name (isName name) refl x y
+    where
+      by-name : (t : Bool) → isName name ≡ t → (x y : Option ℕ)
+          → refusedIf (not t) why.Name (withCoordinates x y sites name)
+          ≡ enteredRead sites (record { ok = t; name = nameWhere t name }) (placeRead (coordinateRead x) (coordinateRead y))
+      by-name false is x y = refl
+      by-name true is none y = refl
+      by-name true is (some n) none = refl
+      by-name true is (some n) (some m) =
+          ap (λ (bytes : List ℕ).
+          tested false false (leb mostSites (length sites)) (nameTaken sites bytes) (placeTaken sites (placeAt n m))
+          (sites ++ (record { name = bytes; place = placeAt n m } ∷ [])))
+          (sym (name-held name (name-short name is)))
 
-module _ (sites : List Site) (name x y : List ℕ) where
-  -- What the test for a name decides.
-  abbrev whereNamed : Bool → Sites
-  whereNamed b = refusedIf (not b) why.Name (withCoordinates (coordinateIn x) (coordinateIn y) sites name)
+  module _ {read : NameRead} {x y : Coordinate} {place : PlaceRead} (read-is : read ≡ nameRead name) (place-is : place ≡ placeRead x y) where
+    -- Of a line's fields, or of other coordinates as they were read,
+    pub entered-as-read : (n m : Option ℕ) → x ≡ coordinateRead n → y ≡ coordinateRead m
+        → refusedIf (not (isName name)) why.Name (withCoordinates n m sites name) ≡ enteredRead sites read place
+    entered-as-read n m x-is y-is =
+        read-so n m ∙ sym (λ k. enteredRead sites (read-is k) ((place-is ∙ (λ j. placeRead (x-is j) (y-is j))) k))
 
-  -- Refused where the first is no name.
-  pub fields-unnamed : isName name ≡ false → enteredFields sites (name ∷ x ∷ y ∷ []) ≡ refused why.Name
-  fields-unnamed unnamed = ap whereNamed unnamed
-
-  module _ (named : isName name ≡ true) where
-    -- Refused where the second is no coordinate.
-    pub fields-no-x : coordinateRead (coordinateIn x) ≡ Nowhere → enteredFields sites (name ∷ x ∷ y ∷ []) ≡ refused why.Coordinate
-    fields-no-x no-x =
-        ap whereNamed named ∙ ap (λ (a : Option ℕ). withCoordinates a (coordinateIn y) sites name) (coordinate-none (coordinateIn x) no-x)
-
-    module _ (across : Units) (at-x : coordinateRead (coordinateIn x) ≡ At across) where
-      -- Then it is the third that counts.
-      fields-from-y : (third : Option ℕ) → coordinateIn y ≡ third
-          → enteredFields sites (name ∷ x ∷ y ∷ []) ≡ withCoordinates (some (across .0)) third sites name
-      fields-from-y third is =
-          ap whereNamed named
-          ∙ ap₂ (λ (a b : Option ℕ). withCoordinates a b sites name) (coordinate-at (coordinateIn x) across at-x) is
-
-      -- Refused where that is no coordinate.
-      pub fields-no-y : coordinateRead (coordinateIn y) ≡ Nowhere → enteredFields sites (name ∷ x ∷ y ∷ []) ≡ refused why.Coordinate
-      fields-no-y no-y = fields-from-y none (coordinate-none (coordinateIn y) no-y)
-
-      -- Otherwise the site is appended.
-      pub fields-appended : (up : Units) → coordinateRead (coordinateIn y) ≡ At up → {held : Name} → NamedAs name held
-          → enteredFields sites (name ∷ x ∷ y ∷ []) ≡ appended sites (siteOf held (record { x = across; y = up }))
-      fields-appended up at-y is =
-          fields-from-y (some (up .0)) (coordinate-at (coordinateIn y) up at-y)
-          ∙ ap (λ (bytes : List ℕ). appended sites (record { name = bytes; place = record { x = across; y = up } })) (sym (is .bytes-are))
+    -- and of two numbers.
+    pub numbers-as-read : (n m : ℕ) → x ≡ coordinateRead (asCoordinate (some n)) → y ≡ coordinateRead (asCoordinate (some m))
+        → entered sites name n m ≡ enteredRead sites read place
+    unfolding entered
+    numbers-as-read n m x-is y-is =
+        by-name (isName name) refl ∙ entered-as-read (asCoordinate (some n)) (asCoordinate (some m)) x-is y-is
+      where
+        by-name : (t : Bool) → isName name ≡ t
+            → entered sites name n m
+            ≡ refusedIf (not (isName name)) why.Name (withCoordinates (asCoordinate (some n)) (asCoordinate (some m)) sites name)
+        by-name true named = sym (coordinates-entered sites name n m named) ∙ rw named
+        by-name false unnamed = rw unnamed

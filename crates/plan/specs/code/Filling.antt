@@ -23,7 +23,7 @@ use Rattle.plan.specs.rules.Enter.{Sites, accepted, refused}
 use Rattle.plan.specs.rules.List.{readList, read-listed}
 use Rattle.plan.specs.rules.Sheet.{sheetOf}
 use Rattle.plan.specs.rules.Plan.{unplaced, placed, sitesIn, sites-unplaced, sites-placed, Valid, is-placed, is-unplaced}
-use Rattle.plan.specs.rules.Calls.{writtenNumber, writtenLength, numberIf, carriedAt}
+use Rattle.plan.specs.rules.Calls.{writtenNumber, writtenLength, numberIf, carriedAt, fullTable}
 use Rattle.plan.specs.rules.Calls.{plannedOr, started, readFrom, placedIn, written, writeWhere, filledWhere, bufferAfter}
 use Rattle.plan.specs.rules.Output.{refusalLine, outputFor, outputOf, outputWhere, refusalWritten, refusalAfter, output-sheet}
 use Rattle.plan.specs.rules.Output.{outputWritten, outputNumber, outputAfter}
@@ -155,13 +155,13 @@ read-refused text why listed-is is = by-sites (readList text) (ap outcomeOf (sym
     by-sites (refused other) is = let same : other ≡ why = cc in ap refusalLine same
 
 -- A table of 57,600 bytes is enough for the sites of every plan: one that has sites is placed.
-placed-in : (sites : List Site) (table : List ℕ) → Listed sites → 1 ≤ length sites → length table ≡ 57600
+placed-in : (sites : List Site) (table : List ℕ) → Listed sites → 1 ≤ length sites → length table ≡ fullTable
     → placedIn (unplaced sites) table ≡ record { outcome = Done; plan = placed sites }
 placed-in sites table listed nonempty size =
     unplaced-placed sites table listed nonempty (omega (arith, mul-le-mul-right (length sites) (listed .few)))
 
 -- So where placing is refused the list has no sites, and the output says so.
-pub place-refused : (text table : List ℕ) (why : Refusal) {listed done : Planned} → length table ≡ 57600
+pub place-refused : (text table : List ℕ) (why : Refusal) {listed done : Planned} → length table ≡ fullTable
     → listed ≡ readFrom text → listed .outcome ≡ Done → done ≡ placedIn (listed .plan) table → done .outcome ≡ Refused why
     → outputOf text ≡ refusalLine why
 unfolding outputOf unplaced
@@ -184,7 +184,7 @@ pub record PlanOf (text : List ℕ) (plan : Plan) : Type 0 where
   pub sheet-is : sheetOf (sitesIn plan) ≡ outputOf text
 
 -- Where placing is accepted its plan is one.
-pub place-done : (text table : List ℕ) {listed done : Planned} → length table ≡ 57600 → listed ≡ readFrom text → listed .outcome ≡ Done
+pub place-done : (text table : List ℕ) {listed done : Planned} → length table ≡ fullTable → listed ≡ readFrom text → listed .outcome ≡ Done
     → done ≡ placedIn (listed .plan) table → done .outcome ≡ Done → PlanOf text (done .plan)
 unfolding unplaced placed
 place-done text table {listed} {done} size listed-is is-read done-is is =

@@ -13,7 +13,7 @@ use lib.Seq.{drop-cons, drop-drop, getD-drop, getD-take, length-take-le, take-al
 use borrow.Author.Tests.{ne-eqb}
 use Rattle.plan.specs.declared.list.LineEnd.the-variants.{At, Missing}
 use Rattle.plan.specs.declared.refusal.Refusal.the-variants.{Line}
-use Rattle.plan.specs.rules.Text.{tab, lineFeed, Cut, withByte, cutWithin, firstLine, fieldsOf, Without, fields-one, fields-more, fields-some}
+use Rattle.plan.specs.rules.Text.{tab, lineFeed, Cut, withByte, cutWithin, firstLine, fieldsOf, Without, fields-one, fields-more, fields-some, endedLine, mostLineBytes}
 use Rattle.plan.specs.code.Line.{lineEnd, FieldEnd}
 use Rattle.plan.specs.rules.Site.{Site}
 use Rattle.plan.specs.rules.Enter.{refused}
@@ -35,54 +35,54 @@ end-after-byte k at b text no-feed = rw (ne-eqb b lineFeed no-feed, lineEnd) (en
 -- The i bytes of a text from a place on are no line feeds: its line ends where it does from the byte after them on.
 pub record LineFrom (text : List ℕ) (at i : ℕ) : Type 0 where
   pub within : at + i ≤ length text
-  pub onward : lineEnd at (firstLine (drop at text)) ≡ lineEnd (at + i) (cutWithin (21 - i) (drop (at + i) text))
+  pub onward : lineEnd at (firstLine (drop at text)) ≡ lineEnd (at + i) (cutWithin (endedLine - i) (drop (at + i) text))
 
 -- With no byte passed.
 pub line-starts : (text : List ℕ) (at : ℕ) → at ≤ length text → LineFrom text at 0
 line-starts text at inside = let same : at + 0 ≡ at = omega arith in record { within = omega arith; onward = rw same }
 
 -- The bytes that are left, and how many of them count, may be written otherwise.
-onward-as : (text : List ℕ) (at i k : ℕ) (rest : List ℕ) → LineFrom text at i → 21 - i ≡ k → drop (at + i) text ≡ rest
+onward-as : (text : List ℕ) (at i k : ℕ) (rest : List ℕ) → LineFrom text at i → endedLine - i ≡ k → drop (at + i) text ≡ rest
     → lineEnd at (firstLine (drop at text)) ≡ lineEnd (at + i) (cutWithin k rest)
 onward-as text at i k rest so-far counted left =
     so-far .onward ∙ ap₂ (λ (m : ℕ) (bytes : List ℕ). lineEnd (at + i) (cutWithin m bytes)) counted left
 
 -- Where a byte is left, the line from there on begins with it.
-onward-byte : (text : List ℕ) (at i : ℕ) → LineFrom text at i → i < 21 → at + i < length text
-    → lineEnd at (firstLine (drop at text)) ≡ lineEnd (at + i) (cutWithin (suc (20 - i)) (getD text (at + i) 0 ∷ drop (suc (at + i)) text))
+onward-byte : (text : List ℕ) (at i : ℕ) → LineFrom text at i → i < endedLine → at + i < length text
+    → lineEnd at (firstLine (drop at text)) ≡ lineEnd (at + i) (cutWithin (suc (mostLineBytes - i)) (getD text (at + i) 0 ∷ drop (suc (at + i)) text))
 onward-byte text at i so-far few inside = onward-as text at i _ _ so-far (omega arith) (drop-cons text (at + i) 0 inside)
 
 -- One byte more that is no line feed.
-pub line-on : (text : List ℕ) (at i : ℕ) → LineFrom text at i → i < 21 → at + i < length text → getD text (at + i) 0 ≢ lineFeed
+pub line-on : (text : List ℕ) (at i : ℕ) → LineFrom text at i → i < endedLine → at + i < length text → getD text (at + i) 0 ≢ lineFeed
     → LineFrom text at (i + 1)
 line-on text at i so-far few inside no-feed =
     let next : at + (i + 1) ≡ at + i + 1 = omega arith in
-    let left : 21 - (i + 1) ≡ 20 - i = omega arith in
+    let left : endedLine - (i + 1) ≡ mostLineBytes - i = omega arith in
     record {
       within = omega arith;
       onward = rw (next, left) (onward-byte text at i so-far few inside
-          ∙ end-after-byte (20 - i) (at + i) (getD text (at + i) 0) (drop (suc (at + i)) text) no-feed
-          ∙ ap (λ (k : ℕ). lineEnd (at + i + 1) (cutWithin (20 - i) (drop k text))) (sym (add-one (at + i))));
+          ∙ end-after-byte (mostLineBytes - i) (at + i) (getD text (at + i) 0) (drop (suc (at + i)) text) no-feed
+          ∙ ap (λ (k : ℕ). lineEnd (at + i + 1) (cutWithin (mostLineBytes - i) (drop k text))) (sym (add-one (at + i))));
     }
 
 -- A line feed is the line's end.
-pub line-here : (text : List ℕ) (at i : ℕ) → LineFrom text at i → i < 21 → at + i < length text → getD text (at + i) 0 ≡ lineFeed
+pub line-here : (text : List ℕ) (at i : ℕ) → LineFrom text at i → i < endedLine → at + i < length text → getD text (at + i) 0 ≡ lineFeed
     → lineEnd at (firstLine (drop at text)) ≡ At (at + i)
 unfolding cutWithin
 line-here text at i so-far few inside feed =
     onward-byte text at i so-far few inside
-    ∙ ap (λ (b : ℕ). lineEnd (at + i) (cutWithin (suc (20 - i)) (b ∷ drop (suc (at + i)) text))) feed
+    ∙ ap (λ (b : ℕ). lineEnd (at + i) (cutWithin (suc (mostLineBytes - i)) (b ∷ drop (suc (at + i)) text))) feed
     ∙ ap At (omega arith)
 
 -- A text that ends before a line feed has no whole line.
-pub line-short : (text : List ℕ) (at i : ℕ) → LineFrom text at i → i < 21 → length text - at ≤ i
+pub line-short : (text : List ℕ) (at i : ℕ) → LineFrom text at i → i < endedLine → length text - at ≤ i
     → lineEnd at (firstLine (drop at text)) ≡ Missing
 unfolding cutWithin
 line-short text at i so-far few ends =
-    onward-as text at i (suc (20 - i)) [] so-far (omega arith) (drop-of-length-le text {i = at + i} (omega arith))
+    onward-as text at i (suc (mostLineBytes - i)) [] so-far (omega arith) (drop-of-length-le text {i = at + i} (omega arith))
 
 -- Nor is there one whose first 21 bytes are no line feeds.
-pub line-long : (text : List ℕ) (at i : ℕ) → LineFrom text at i → 21 ≤ i → lineEnd at (firstLine (drop at text)) ≡ Missing
+pub line-long : (text : List ℕ) (at i : ℕ) → LineFrom text at i → endedLine ≤ i → lineEnd at (firstLine (drop at text)) ≡ Missing
 unfolding cutWithin
 line-long text at i so-far many = onward-as text at i 0 (drop (at + i) text) so-far (omega arith) refl
 

@@ -12,9 +12,9 @@ use lib.Dec.{eqb, leb}
 use lib.ListN.{length, getD, take, drop, replicate, drop-of-length-le}
 use lib.Seq.{drop-cons, take-length, slice-cons, slice-empty}
 use borrow.Author.Tests.{le-leb, lt-leb, eq-eqb, ne-eqb}
-use Rattle.plan.specs.declared.name.Name.{Name}
-use Rattle.plan.specs.rules.Name.{nameByte, nameBytes, isName, sameBytes, nameOf}
-use Rattle.plan.specs.code.NameRead.{noName, nameWhere, nameRead}
+use Rattle.plan.specs.declared.name.NameRead.{NameRead}
+use Rattle.plan.specs.rules.Name.{nameByte, nameBytes, isName, sameBytes, nameOf, mostNameBytes}
+use Rattle.plan.specs.code.NameRead.{noRead, nameWhere, nameRead}
 
 -- A byte is of a name by where it stands: hyphen, below the digits, a digit, between digits and letters, from A on.
 pub hyphen-name-byte : (b : ℕ) → b ≡ 45 → nameByte b ≡ true
@@ -55,13 +55,13 @@ pub empty-no-name : (text : List ℕ) → length text ≡ 0 → isName text ≡ 
 unfolding isName
 empty-no-name text e = rw e
 
-pub long-no-name : (text : List ℕ) → 8 < length text → isName text ≡ false
+pub long-no-name : (text : List ℕ) → mostNameBytes < length text → isName text ≡ false
 unfolding isName
-long-no-name text h = rw (le-leb 1 (length text) (omega arith), lt-leb (length text) 8 h)
+long-no-name text h = rw (le-leb 1 (length text) (omega arith), lt-leb (length text) mostNameBytes h)
 
-pub short-name : (text : List ℕ) → 1 ≤ length text → length text ≤ 8 → isName text ≡ nameBytes text
+pub short-name : (text : List ℕ) → 1 ≤ length text → length text ≤ mostNameBytes → isName text ≡ nameBytes text
 unfolding isName
-short-name text h l = rw (le-leb 1 (length text) h, le-leb (length text) 8 l)
+short-name text h l = rw (le-leb 1 (length text) h, le-leb (length text) mostNameBytes l)
 
 -- k zeros without the first n of them.
 drop-zeros : (n k : ℕ) → drop {A = ℕ} n (replicate k 0) ≡ replicate (k - n) 0
@@ -70,16 +70,15 @@ drop-zeros (suc n) zero = rw zero-sub
 drop-zeros (suc n) (suc k) = rw suc-sub-suc (drop-zeros n k)
 
 -- A text written over eight zeros is what its record holds.
-over-zeros : (text : List ℕ) → take (length text) text ++ drop (length text) (replicate 8 0) ≡ nameOf text .bytes
-over-zeros text = ap₂ (λ (xs ys : List ℕ). xs ++ ys) (take-length text) (drop-zeros (length text) 8)
+over-zeros : (text : List ℕ) → take (length text) text ++ drop (length text) (replicate mostNameBytes 0) ≡ nameOf text .bytes
+over-zeros text = ap₂ (λ (xs ys : List ℕ). xs ++ ys) (take-length text) (drop-zeros (length text) mostNameBytes)
 
 -- What is handed back where the text is no name.
-pub no-name-read : (text : List ℕ) {name : Name} → name ≡ noName → isName text ≡ false → record { ok = false; name = name } ≡ nameRead text
-no-name-read text e refused =
-    ap (λ (n : Name). record { ok = false; name = n }) e ∙ sym (ap (λ (ok : Bool). record { ok = ok; name = nameWhere ok text }) refused)
+pub no-name-read : (text : List ℕ) {read : NameRead} → read ≡ noRead → isName text ≡ false → read ≡ nameRead text
+no-name-read text e refused = e ∙ sym (ap (λ (ok : Bool). record { ok = ok; name = nameWhere ok text }) refused)
 
 -- What is handed back where it is one, written over zeros.
-pub name-read : (text bytes : List ℕ) → bytes ≡ take (length text) text ++ drop (length text) (replicate 8 0) → isName text ≡ true
+pub name-read : (text bytes : List ℕ) → bytes ≡ take (length text) text ++ drop (length text) (replicate mostNameBytes 0) → isName text ≡ true
     → record { ok = true; name = record { bytes = bytes; len = length text } } ≡ nameRead text
 name-read text bytes e is =
     ap (λ (b : List ℕ). record { ok = true; name = record { bytes = b; len = length text } }) (e ∙ over-zeros text)

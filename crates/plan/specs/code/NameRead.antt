@@ -11,6 +11,10 @@ use Rattle.plan.specs.rules.Name.{isName, nameOf}
 abbrev pub noName : Name
 noName = nameOf []
 
+-- No name was read.
+abbrev pub noRead : NameRead
+noRead = record { ok = false; name = noName }
+
 -- The name, where the bytes are one.
 abbrev pub nameWhere : Bool → List ℕ → Name
 nameWhere true bytes = nameOf bytes

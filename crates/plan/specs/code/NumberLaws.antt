@@ -11,36 +11,30 @@ use native.Mathlib.Omega.{arith}
 use lib.Dec.{leb}
 use lib.ListN.{length, getD, drop, drop-of-length-le}
 use lib.Seq.{drop-cons}
-use borrow.Author.Tests.{le-leb, lt-leb, eq-eqb, ne-eqb}
+use borrow.Author.Tests.{le-leb, lt-leb, leb-true, leb-false, eq-eqb, ne-eqb}
+use Rattle.placing.specs.declared.units.Units.{Units}
 use Rattle.placing.specs.rules.Units.{greatestCoordinate}
+use Rattle.plan.specs.declared.number.Coordinate.the-variants.{At, Nowhere}
 use Rattle.plan.specs.rules.Number.{zeroDigit, digitsAfter, numberIn, asCoordinate}
+use Rattle.plan.specs.code.Coordinate.{coordinateRead}
 
--- A digit is appended.
-digit-more : (n b : ℕ) (text : List ℕ) → zeroDigit ≤ b → b ≤ 57 → digitsAfter n (b ∷ text) ≡ digitsAfter (n * 10 + (b - zeroDigit)) text
+-- A digit is appended,
+pub digit-last : (n b : ℕ) → zeroDigit ≤ b → b ≤ 57 → digitsAfter n (b ∷ []) ≡ some (n * 10 + (b - zeroDigit))
 unfolding digitsAfter
-digit-more n b text low high =
+digit-last n b low high =
     let digit : (leb zeroDigit b && leb b 57) ≡ true = rw (le-leb zeroDigit b low, le-leb b 57 high) in
-    ap (λ (t : Bool). elim t [ true ↦ digitsAfter (n * 10 + (b - zeroDigit)) text | false ↦ none ]) digit
+    ap (λ (t : Bool). elim t [ true ↦ digitsAfter (n * 10 + (b - zeroDigit)) [] | false ↦ none ]) digit
 
--- A text with a byte that is no digit writes no number.
-digit-none : (n b : ℕ) (text : List ℕ) → (leb zeroDigit b && leb b 57) ≡ false → digitsAfter n (b ∷ text) ≡ none
+-- and a byte that is no digit writes no number.
+digit-none : (n b : ℕ) → (leb zeroDigit b && leb b 57) ≡ false → digitsAfter n (b ∷ []) ≡ none
 unfolding digitsAfter
-digit-none n b text e = ap (λ (t : Bool). elim t [ true ↦ digitsAfter (n * 10 + (b - zeroDigit)) text | false ↦ none ]) e
+digit-none n b e = ap (λ (t : Bool). elim t [ true ↦ digitsAfter (n * 10 + (b - zeroDigit)) [] | false ↦ none ]) e
 
--- Byte i of a text: a digit, below the digits, above them.
-module _ (n : ℕ) (text : List ℕ) (i : ℕ) (within : i < length text) where
-  pub digit-at : zeroDigit ≤ getD text i 0 → getD text i 0 ≤ 57
-      → digitsAfter n (drop i text) ≡ digitsAfter (n * 10 + (getD text i 0 - zeroDigit)) (drop (i + 1) text)
-  digit-at low high = rw (add-one, drop-cons text i 0) (digit-more n (getD text i 0) (drop (suc i) text) low high)
+pub low-none : (n b : ℕ) → b < zeroDigit → digitsAfter n (b ∷ []) ≡ none
+low-none n b low = digit-none n b (rw (lt-leb zeroDigit b low))
 
-  pub low-at : getD text i 0 < zeroDigit → digitsAfter n (drop i text) ≡ none
-  low-at low = rw (drop-cons text i 0) (digit-none n (getD text i 0) (drop (suc i) text) (rw (lt-leb zeroDigit (getD text i 0) low)))
-
-  pub high-at : 57 < getD text i 0 → digitsAfter n (drop i text) ≡ none
-  high-at high =
-      rw (drop-cons text i 0)
-      (digit-none n (getD text i 0) (drop (suc i) text)
-      (rw (le-leb zeroDigit (getD text i 0) (omega arith), lt-leb (getD text i 0) 57 high)))
+pub high-none : (n b : ℕ) → 57 < b → digitsAfter n (b ∷ []) ≡ none
+high-none n b high = digit-none n b (rw (le-leb zeroDigit b (omega arith), lt-leb b 57 high))
 
 -- No byte is left.
 pub end-at : (n : ℕ) (text : List ℕ) (i : ℕ) → length text ≤ i → digitsAfter n (drop i text) ≡ some n
@@ -54,6 +48,9 @@ range-test n t e = ap (λ (t : Bool). elim t [ true ↦ some n | false ↦ none 
 pub in-range : (n : ℕ) → n ≤ greatestCoordinate → asCoordinate (some n) ≡ some n
 in-range n h = range-test n true (le-leb n greatestCoordinate h)
 
+pub out-of-range : (n : ℕ) → greatestCoordinate < n → asCoordinate (some n) ≡ none
+out-of-range n h = range-test n false (lt-leb n greatestCoordinate h)
+
 -- A number that is out of range stays so, whatever is appended.
 pub beyond-stays : (n : ℕ) (text : List ℕ) → greatestCoordinate < n → asCoordinate (digitsAfter n text) ≡ none
 unfolding digitsAfter
@@ -64,6 +61,50 @@ beyond-stays n (b ∷ text) h = at (leb zeroDigit b && leb b 57) (beyond-stays (
         → asCoordinate (elim t [ true ↦ digitsAfter (n * 10 + (b - zeroDigit)) text | false ↦ none ]) ≡ none
     at true more = more
     at false more = refl
+
+-- One digit more that leaves the number in range is appended,
+module _ (n b : ℕ) (rest : List ℕ) where
+  digit-on : (a : Units) → coordinateRead (asCoordinate (digitsAfter n (b ∷ []))) ≡ At a
+      → (a .0 ≤ greatestCoordinate) × (digitsAfter n (b ∷ rest) ≡ digitsAfter (a .0) rest)
+  unfolding digitsAfter
+  digit-on a is = by-test (leb zeroDigit b && leb b 57) is
+    where
+      in-test : (m : ℕ) (t : Bool) → leb m greatestCoordinate ≡ t → coordinateRead (elim t [ true ↦ some m | false ↦ none ]) ≡ At a
+          → (a .0 ≤ greatestCoordinate) × (digitsAfter m rest ≡ digitsAfter (a .0) rest)
+      in-test m true fits is =
+          let same : m ≡ a .0 = cc in
+          (omega (arith, leb-true m greatestCoordinate fits), ap (λ (k : ℕ). digitsAfter k rest) same)
+      in-test m false far is = let z : _≡_ {A = ℕ} 0 1 = cc in absurd (omega arith)
+
+      by-test : (t : Bool) → coordinateRead (asCoordinate (elim t [ true ↦ some (n * 10 + (b - zeroDigit)) | false ↦ none ])) ≡ At a
+          → (a .0 ≤ greatestCoordinate)
+          × (elim t [ true ↦ digitsAfter (n * 10 + (b - zeroDigit)) rest | false ↦ none ] ≡ digitsAfter (a .0) rest)
+      by-test true is = in-test (n * 10 + (b - zeroDigit)) (leb (n * 10 + (b - zeroDigit)) greatestCoordinate) refl is
+      by-test false is = let z : _≡_ {A = ℕ} 0 1 = cc in absurd (omega arith)
+
+  -- and one that does not, or is none, ends the reading.
+  digit-ends : coordinateRead (asCoordinate (digitsAfter n (b ∷ []))) ≡ Nowhere → asCoordinate (digitsAfter n (b ∷ rest)) ≡ none
+  unfolding digitsAfter
+  digit-ends is = by-test (leb zeroDigit b && leb b 57) is
+    where
+      in-test : (m : ℕ) (t : Bool) → leb m greatestCoordinate ≡ t → coordinateRead (elim t [ true ↦ some m | false ↦ none ]) ≡ Nowhere
+          → asCoordinate (digitsAfter m rest) ≡ none
+      in-test m true fits is = let z : _≡_ {A = ℕ} 0 1 = cc in absurd (omega arith)
+      in-test m false far is = beyond-stays m rest (leb-false m greatestCoordinate far)
+
+      by-test : (t : Bool) → coordinateRead (asCoordinate (elim t [ true ↦ some (n * 10 + (b - zeroDigit)) | false ↦ none ])) ≡ Nowhere
+          → asCoordinate (elim t [ true ↦ digitsAfter (n * 10 + (b - zeroDigit)) rest | false ↦ none ]) ≡ none
+      by-test true is = in-test (n * 10 + (b - zeroDigit)) (leb (n * 10 + (b - zeroDigit)) greatestCoordinate) refl is
+      by-test false is = refl
+
+-- So of byte i of a text.
+module _ (n : ℕ) (text : List ℕ) (i : ℕ) (within : i < length text) where
+  pub on-at : (a : Units) → coordinateRead (asCoordinate (digitsAfter n (getD text i 0 ∷ []))) ≡ At a
+      → (a .0 ≤ greatestCoordinate) × (digitsAfter n (drop i text) ≡ digitsAfter (a .0) (drop (i + 1) text))
+  on-at a is = rw (add-one, drop-cons text i 0) (digit-on n (getD text i 0) (drop (suc i) text) a is)
+
+  pub ends-at : coordinateRead (asCoordinate (digitsAfter n (getD text i 0 ∷ []))) ≡ Nowhere → asCoordinate (digitsAfter n (drop i text)) ≡ none
+  ends-at is = rw (drop-cons text i 0) (digit-ends n (getD text i 0) (drop (suc i) text) is)
 
 -- A text writes no number if it is empty or has a leading zero; else it writes that of its digits.
 pub empty-number : (text : List ℕ) → length text ≡ 0 → numberIn text ≡ none

@@ -10,13 +10,13 @@ use lib.Seq.{take-at, set-at, getD-take}
 use Rattle.placing.specs.declared.side.Placed.{Placed}
 use Rattle.placing.specs.declared.units.Place.{Place}
 use Rattle.placing.specs.declared.units.Side.the-variants.{Free}
-use Rattle.placing.specs.rules.Units.{nowhere}
+use Rattle.placing.specs.rules.Units.{nowhere, mostSites}
 use Rattle.placing.specs.rules.Choice.{cornerAt}
 use Rattle.placing.specs.rules.Answer.{Answer, answerOf}
 use Rattle.placing.specs.rules.Placing.{placedAs, MayPlace}
 use Rattle.plan.specs.declared.name.Name.{Name}
 use Rattle.plan.specs.declared.plan.Plan.{Plan}
-use Rattle.plan.specs.rules.Name.{bytesOf, nameOf, name-short}
+use Rattle.plan.specs.rules.Name.{bytesOf, nameOf, name-short, mostNameBytes}
 use Rattle.plan.specs.rules.Site.{Site, noSite, placeOf, placesOf, nameTaken, placeTaken, Listed}
 use Rattle.plan.specs.rules.Enter.{listed-none}
 use Rattle.plan.specs.code.Taken.{siteOf, ShortNames, namesTaken, placesTaken}
@@ -42,15 +42,15 @@ valid-holding (is-placed sites listed some-sites) =
 -- A plan that is not placed, from its count, names and places.
 abbrev pub unplacedOf : ℕ → List Name → List Place → Plan
 unplacedOf count names places =
-    record { count = count; names = names; places = places; placed = false; side = Free; corners = replicate 240 0 }
+    record { count = count; names = names; places = places; placed = false; side = Free; corners = replicate mostSites 0 }
 
 -- With every slot empty it is the plan of no sites.
-pub empty-started : {none : Name} → none ≡ nameOf [] → unplacedOf 0 (replicate 240 none) (replicate 240 nowhere) ≡ unplaced []
+pub empty-started : {none : Name} → none ≡ nameOf [] → unplacedOf 0 (replicate mostSites none) (replicate mostSites nowhere) ≡ unplaced []
 unfolding unplaced
-empty-started e = ap (λ (name : Name). unplacedOf 0 (replicate 240 name) (replicate 240 nowhere)) e
+empty-started e = ap (λ (name : Name). unplacedOf 0 (replicate mostSites name) (replicate mostSites nowhere)) e
 
 -- and so one that the calls hand back.
-pub empty-valid : {none : Name} → none ≡ nameOf [] → Valid (unplacedOf 0 (replicate 240 none) (replicate 240 nowhere))
+pub empty-valid : {none : Name} → none ≡ nameOf [] → Valid (unplacedOf 0 (replicate mostSites none) (replicate mostSites nowhere))
 empty-valid e = subst Valid (sym (empty-started e)) (is-unplaced [] listed-none)
 
 -- ---- reading what a plan holds
@@ -59,10 +59,10 @@ empty-valid e = subst Valid (sym (empty-started e)) (is-unplaced [] listed-none)
 pub holding-short : {plan : Plan} {sites : List Site} → Holding plan sites → ShortNames (plan .count) (plan .names)
 holding-short {plan} {sites} holding = rw (holding .count, holding .names) (record { short = held })
   where
-    held : (i : ℕ) → i < length sites → getD (namesHeld sites) i (nameOf []) .len ≤ 8
+    held : (i : ℕ) → i < length sites → getD (namesHeld sites) i (nameOf []) .len ≤ mostNameBytes
     held i below =
         rw (
-          List·getD-append (map nameRecord sites) (replicate (240 - length sites) (nameOf [])) (nameOf []) i
+          List·getD-append (map nameRecord sites) (replicate (mostSites - length sites) (nameOf [])) (nameOf []) i
               (omega (arith, length-map sites nameRecord)),
           List·getD-map nameRecord sites i noSite,
         )
@@ -89,26 +89,26 @@ holding-place {plan} {sites} holding place =
 -- ---- one site more
 
 -- The first empty slot takes what is to be held of the new site.
-held-more : {A : Type 0} (f : Site → A) (d : A) (sites : List Site) (site : Site) → length sites < 240
-    → set (map f sites ++ replicate (240 - length sites) d) (length sites) (f site)
-    ≡ map f (sites ++ (site ∷ [])) ++ replicate (240 - length (sites ++ (site ∷ []))) d
+held-more : {A : Type 0} (f : Site → A) (d : A) (sites : List Site) (site : Site) → length sites < mostSites
+    → set (map f sites ++ replicate (mostSites - length sites) d) (length sites) (f site)
+    ≡ map f (sites ++ (site ∷ [])) ++ replicate (mostSites - length (sites ++ (site ∷ []))) d
 held-more {A} f d sites site room =
-    let slot : 240 - length sites ≡ suc (240 - suc (length sites)) = omega arith in
-    let left : 240 - suc (length sites) ≡ 240 - length (sites ++ (site ∷ [])) = omega (arith, length-append sites (site ∷ [])) in
+    let slot : mostSites - length sites ≡ suc (mostSites - suc (length sites)) = omega arith in
+    let left : mostSites - suc (length sites) ≡ mostSites - length (sites ++ (site ∷ [])) = omega (arith, length-append sites (site ∷ [])) in
     ap (λ (n : ℕ). set (map f sites ++ replicate n d) (length sites) (f site)) slot
-    ∙ set-at (map f sites) d (replicate (240 - suc (length sites)) d) (f site) (length sites) (length-map sites f)
-    ∙ sym (append-assoc (map f sites) (f site ∷ []) (replicate (240 - suc (length sites)) d))
+    ∙ set-at (map f sites) d (replicate (mostSites - suc (length sites)) d) (f site) (length sites) (length-map sites f)
+    ∙ sym (append-assoc (map f sites) (f site ∷ []) (replicate (mostSites - suc (length sites)) d))
     ∙ ap₂ (λ (l : List A) (n : ℕ). l ++ replicate n d) (sym (map-append f sites (site ∷ []))) left
 
 -- The plan with a name and a place more is that of the sites with one more.
 pub holding-more : {plan : Plan} {sites : List Site} → Holding plan sites → (name : Name) (place : Place) → name ≡ nameOf (bytesOf name)
-    → plan .count < 240
+    → plan .count < mostSites
     → unplacedOf (plan .count + 1) (set (plan .names) (plan .count) name) (set (plan .places) (plan .count) place)
     ≡ unplaced (sites ++ (siteOf name place ∷ []))
 unfolding unplaced
 holding-more {plan} {sites} holding name place named room = λ k. unplacedOf (counts k) (names k) (places k)
   where
-    fits : length sites < 240
+    fits : length sites < mostSites
     fits = omega (arith, holding .count)
 
     counts : plan .count + 1 ≡ length (sites ++ (siteOf name place ∷ []))

@@ -9,13 +9,14 @@ use native.Mathlib.Omega.{arith}
 use lib.ListN.{length, take, drop, length-append, length-drop, drop-of-length-le}
 use lib.Seq.{take-at, drop-drop, drop-append-add}
 use Rattle.plan.specs.declared.list.LineEnd.the-variants.{At, Missing}
+use Rattle.plan.specs.declared.list.LineRead.{LineRead}
 use Rattle.plan.specs.declared.refusal.Outcome.the-variants.{Done, Refused}
 use Rattle.plan.specs.declared.refusal.Refusal.{Refusal}
 use Rattle.plan.specs.declared.refusal.Refusal.the-variants.{Line}
 use Rattle.plan.specs.declared.plan.Plan.{Plan}
 use Rattle.plan.specs.declared.plan.Planned.{Planned}
-use Rattle.plan.specs.rules.Text.{lineFeed, Cut, cut-is, firstLine}
-use Rattle.plan.specs.code.Line.{lineEnd}
+use Rattle.plan.specs.rules.Text.{lineFeed, Cut, cut-is, firstLine, endedLine}
+use Rattle.plan.specs.code.Line.{lineEnd, lineAfter, lineRead}
 use Rattle.plan.specs.code.LineLaws.{between}
 use Rattle.plan.specs.rules.Site.{Site, Listed}
 use Rattle.plan.specs.rules.Enter.{Sites, accepted, refused, listed-none}
@@ -56,6 +57,7 @@ pub record LineAt (text : List ℕ) (at end : ℕ) : Type 0 where
   pub is : firstLine (drop at text) ≡ some cut
   pub line-is : between text at end ≡ cut .line
   pub rest-is : drop (end + 1) text ≡ cut .rest
+  pub ends : end ≡ at + length (cut .line)
   pub after : at ≤ end
   pub inside : end < length text
 
@@ -68,7 +70,7 @@ line-found text at end starts found = of-cut (firstLine (drop at text)) refl fou
     of-cut (some cut) is e =
         let ends : end ≡ at + length (cut .line) = cc in
         let place : end + 1 ≡ at + (length (cut .line) + 1) = omega arith in
-        let whole : drop at text ≡ cut .line ++ (lineFeed ∷ cut .rest) = cut-is 21 (drop at text) cut is .whole in
+        let whole : drop at text ≡ cut .line ++ (lineFeed ∷ cut .rest) = cut-is endedLine (drop at text) cut is .whole in
         let size : length text - at ≡ length (cut .line) + suc (length (cut .rest))
         = sym (length-drop at text) ∙ ap length whole ∙ length-append (cut .line) (lineFeed ∷ cut .rest) in
         record {
@@ -78,9 +80,25 @@ line-found text at end starts found = of-cut (firstLine (drop at text)) refl fou
           rest-is = rw place
               (sym (drop-drop (length (cut .line) + 1) at text) ∙ ap (drop (length (cut .line) + 1)) whole
               ∙ drop-append-add (cut .line) (lineFeed ∷ cut .rest) 1);
+          ends = ends;
           after = omega arith;
           inside = omega arith;
         }
+
+-- Where there is none, that is what is read.
+pub line-missing : (plan : Plan) (at : ℕ) (next : Option Cut) → Missing ≡ lineEnd at next
+    → record { outcome = Refused Line; plan = plan; next = at } ≡ lineRead plan at next
+line-missing plan at none missing = refl
+line-missing plan at (some cut) missing = absurd (let z : _≡_ {A = ℕ} 0 1 = cc in omega arith)
+
+-- Where there is one, it is entered, and the next line starts behind its end.
+pub line-entered : {text : List ℕ} {at end : ℕ} (plan : Plan) {entered : Planned} → LineAt text at end
+    → entered ≡ plannedOr plan (enteredLine (sitesIn plan) (between text at end))
+    → lineAfter entered (end + 1) ≡ lineRead plan at (firstLine (drop at text))
+line-entered {text} {at} {end} plan found is =
+    (λ k. lineAfter (is k) (found .ends k + 1))
+    ∙ ap (λ (line : List ℕ). lineAfter (plannedOr plan (enteredLine (sitesIn plan) line)) (at + length (found .cut .line) + 1)) (found .line-is)
+    ∙ sym (ap (lineRead plan at) (found .is))
 
 -- ---- the lines read so far
 
@@ -128,7 +146,7 @@ module _ {text : List ℕ} {plan : Plan} {at : ℕ} (so-far : Reading text plan 
   reading-line = so-far .onward ∙ read-line (so-far .sites) (drop at text) (omega (arith, length-drop at text))
 
   -- Refused where there is no whole line.
-  pub reading-missing : Missing ≡ lineEnd at (firstLine (drop at text)) → readList text ≡ refused Line
+  reading-missing : Missing ≡ lineEnd at (firstLine (drop at text)) → readList text ≡ refused Line
   reading-missing missing = reading-line ∙ of-cut (firstLine (drop at text)) missing
     where
       of-cut : (next : Option Cut) → Missing ≡ lineEnd at next
@@ -145,13 +163,13 @@ module _ {text : List ℕ} {plan : Plan} {at : ℕ} (so-far : Reading text plan 
       ∙ rw (reading-sites so-far, found .line-is, found .rest-is)
 
   -- Refused where that line is.
-  pub reading-refused : {end : ℕ} (why : Refusal) → LineAt text at end → enteredLine (sitesIn plan) (between text at end) ≡ refused why
+  reading-refused : {end : ℕ} (why : Refusal) → LineAt text at end → enteredLine (sitesIn plan) (between text at end) ≡ refused why
       → readList text ≡ refused why
   reading-refused {end} why found refusal =
       reading-entered found ∙ ap (λ (s : Sites). afterLine (readLines (length (drop at text))) s (drop (end + 1) text)) refusal
 
   -- One line more.
-  pub reading-on : {end : ℕ} {next : Plan} → LineAt text at end → Accepted (enteredLine (sitesIn plan) (between text at end)) next
+  reading-on : {end : ℕ} {next : Plan} → LineAt text at end → Accepted (enteredLine (sitesIn plan) (between text at end)) next
       → Reading text next (end + 1)
   reading-on {end} found entered =
       let after : at ≤ end = found .after in
@@ -166,6 +184,47 @@ module _ {text : List ℕ} {plan : Plan} {at : ℕ} (so-far : Reading text plan 
             ∙ read-enough (length (drop at text)) (length (drop (end + 1) text)) (entered .more) (drop (end + 1) text)
             (omega (arith, length-drop at text, length-drop (end + 1) text)) (omega arith);
       }
+
+  -- What a line that is read gives, from its answer.
+  module _ {r : LineRead} (is : r ≡ lineRead plan at (firstLine (drop at text))) where
+    -- Its end, and its bytes.
+    cut-at : {cut : Cut} → firstLine (drop at text) ≡ some cut → LineAt text at (at + length (cut .line))
+    cut-at {cut} is-cut = line-found text at (at + length (cut .line)) (so-far .within) (sym (ap (lineEnd at) is-cut))
+
+    cut-line : {cut : Cut} (is-cut : firstLine (drop at text) ≡ some cut) → between text at (at + length (cut .line)) ≡ cut .line
+    cut-line {cut} is-cut =
+        let found = cut-at is-cut in
+        let both : some (found .cut) ≡ some cut = sym (found .is) ∙ is-cut in
+        let same : found .cut ≡ cut = cc in
+        found .line-is ∙ ap (λ (c : Cut). c .line) same
+
+    -- Refused, so is the text.
+    pub line-refuses : {why : Refusal} → r .outcome ≡ Refused why → readList text ≡ refused why
+    line-refuses {why} so = of-cut (firstLine (drop at text)) refl (sym (ap (λ (l : LineRead). l .outcome) is) ∙ so)
+      where
+        of-cut : (next : Option Cut) → firstLine (drop at text) ≡ next → lineRead plan at next .outcome ≡ Refused why → readList text ≡ refused why
+        of-cut none is-none e = let same : Line ≡ why = cc in reading-missing (sym (ap (lineEnd at) is-none)) ∙ ap refused same
+        of-cut (some cut) is-cut e =
+            reading-refused why (cut-at is-cut) (ap (enteredLine (sitesIn plan)) (cut-line is-cut) ∙ refused-for plan refl e)
+
+    -- Accepted, the plan has one line more,
+    pub line-on : r .outcome ≡ Done → Reading text (r .plan) (r .next)
+    line-on so = rw is (of-cut (firstLine (drop at text)) refl (sym (ap (λ (l : LineRead). l .outcome) is) ∙ so))
+      where
+        of-cut : (next : Option Cut) → firstLine (drop at text) ≡ next → lineRead plan at next .outcome ≡ Done
+            → Reading text (lineRead plan at next .plan) (lineRead plan at next .next)
+        of-cut none is-none e = absurd (let z : _≡_ {A = ℕ} 0 1 = cc in omega arith)
+        of-cut (some cut) is-cut e =
+            reading-on (cut-at is-cut)
+            (accepted-as plan (ap (λ (line : List ℕ). plannedOr plan (enteredLine (sitesIn plan) line)) (sym (cut-line is-cut))) e)
+
+    -- and the next line starts further on.
+    pub line-further : r .outcome ≡ Done → at < r .next
+    line-further so = rw is (of-cut (firstLine (drop at text)) (sym (ap (λ (l : LineRead). l .outcome) is) ∙ so))
+      where
+        of-cut : (next : Option Cut) → lineRead plan at next .outcome ≡ Done → at < lineRead plan at next .next
+        of-cut none e = absurd (let z : _≡_ {A = ℕ} 0 1 = cc in omega arith)
+        of-cut (some cut) e = omega arith
 
 -- A refusal that hands back the empty plan answers as it should.
 pub reading-answers : (text : List ℕ) {result : Planned} {plan : Plan} {why : Refusal} → (plan ≡ started) × Valid plan

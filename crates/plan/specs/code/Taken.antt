@@ -7,7 +7,7 @@ use lib.ListN.{getD, take}
 use Rattle.placing.specs.declared.units.Place.{Place}
 use Rattle.placing.specs.rules.Units.{samePlace}
 use Rattle.plan.specs.declared.name.Name.{Name}
-use Rattle.plan.specs.rules.Name.{bytesOf, nameOf, sameBytes}
+use Rattle.plan.specs.rules.Name.{bytesOf, nameOf, sameBytes, mostNameBytes}
 use Rattle.plan.specs.rules.Site.{Site}
 
 -- The site of a name's record at a place.
@@ -16,7 +16,7 @@ siteOf name place = record { name = bytesOf name; place = place }
 
 -- The first n names are at most 8 bytes long.
 pub record ShortNames (n : ℕ) (names : List Name) : Type 0 where
-  pub short : (i : ℕ) → i < n → getD names i (nameOf []) .len ≤ 8
+  pub short : (i : ℕ) → i < n → getD names i (nameOf []) .len ≤ mostNameBytes
 
 -- One of these names is this one.
 unfoldable pub nameAmong : List Name → List ℕ → Bool

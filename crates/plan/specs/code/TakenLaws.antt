@@ -14,7 +14,7 @@ use Rattle.placing.specs.declared.units.Place.{Place}
 use Rattle.placing.specs.rules.Units.{xOf, yOf}
 use Rattle.placing.specs.rules.Units.{samePlace}
 use Rattle.plan.specs.declared.name.Name.{Name}
-use Rattle.plan.specs.rules.Name.{bytesOf, nameOf, sameBytes}
+use Rattle.plan.specs.rules.Name.{bytesOf, nameOf, sameBytes, mostNameBytes}
 use Rattle.plan.specs.rules.Site.{Site, placeOf, placesOf, nameTaken, placeTaken, among}
 use Rattle.plan.specs.rules.Plan.{nameRecord, namesHeld, placesHeld}
 use Rattle.plan.specs.code.Taken.{ShortNames, nameAmong, namesTaken, placeAmong, placesTaken}
@@ -68,7 +68,7 @@ same-element (a ∷ l) zero d e below = refl
 same-element (a ∷ l) (suc i) d e below = same-element l i d e (le-of-suc-le-suc below)
 
 -- A held name is short.
-pub held-short : {n : ℕ} {names : List Name} → ShortNames n names → (i : ℕ) (d : Name) → i < n → i < length names → getD names i d .len ≤ 8
+pub held-short : {n : ℕ} {names : List Name} → ShortNames n names → (i : ℕ) (d : Name) → i < n → i < length names → getD names i d .len ≤ mostNameBytes
 held-short {n} {names} held i d counted below = rw (same-element names i d (nameOf []) below) (held .short i counted)
 
 -- ---- places
@@ -83,16 +83,13 @@ unfolding placeAmong
 place-among [] place = refl
 place-among (other ∷ places) place = ap (λ (b : Bool). isAt place other || b) (place-among places place)
 
--- It is passed where both coordinates are the same, and else not.
-module _ (place other : Place) where
-  pub is-at : xOf other ≡ xOf place → yOf other ≡ yOf place → isAt place other ≡ true
-  is-at same-x same-y = rw (eq-eqb (xOf other) (xOf place) same-x) (eq-eqb (yOf other) (yOf place) same-y)
+-- Two places with another x are not the same, and with the same x y decides.
+module _ (a b : Place) where
+  pub other-x : (xOf a ≡ xOf b → ⊥) → samePlace a b ≡ false
+  other-x differ = ap (λ (t : Bool). t && eqb (yOf a) (yOf b)) (ne-eqb (xOf a) (xOf b) differ)
 
-  pub other-x : (xOf other ≡ xOf place → ⊥) → isAt place other ≡ false
-  other-x differ = ap (λ (b : Bool). b && eqb (yOf other) (yOf place)) (ne-eqb (xOf other) (xOf place) differ)
-
-  pub other-y : xOf other ≡ xOf place → (yOf other ≡ yOf place → ⊥) → isAt place other ≡ false
-  other-y same-x differ = rw (eq-eqb (xOf other) (xOf place) same-x) (ne-eqb (yOf other) (yOf place) differ)
+  pub same-x : xOf a ≡ xOf b → samePlace a b ≡ eqb (yOf a) (yOf b)
+  same-x same = ap (λ (t : Bool). t && eqb (yOf a) (yOf b)) (eq-eqb (xOf a) (xOf b) same)
 
 -- ---- what a plan holds
 
@@ -100,7 +97,7 @@ name-of-sites : (sites : List Site) (bytes : List ℕ) → nameAmong (map nameRe
 unfolding nameAmong nameTaken
 name-of-sites [] bytes = refl
 name-of-sites (site ∷ sites) bytes =
-    ap₂ (λ (name : List ℕ) (rest : Bool). sameBytes name bytes || rest) (take-append-seam (site .name) (replicate (8 - length (site .name)) 0))
+    ap₂ (λ (name : List ℕ) (rest : Bool). sameBytes name bytes || rest) (take-append-seam (site .name) (replicate (mostNameBytes - length (site .name)) 0))
     (name-of-sites sites bytes)
 
 place-of-sites : (sites : List Site) (place : Place) → placeAmong (placesOf sites) place ≡ placeTaken sites place

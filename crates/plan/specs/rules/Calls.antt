@@ -7,7 +7,8 @@ use Prim.Native.Nat.{ℕ, _*_}
 use lib.Dec.{leb, ltb, eqb}
 use lib.ListN.{length, drop, replicate}
 use Rattle.placing.specs.declared.units.Side.{Side}
-use Rattle.placing.specs.rules.Units.{greatestCoordinate}
+use Rattle.placing.specs.declared.units.Side.the-variants.{Number, Free}
+use Rattle.placing.specs.rules.Units.{greatestCoordinate, mostSites}
 use Rattle.placing.specs.rules.Choice.{cornerAt}
 use Rattle.placing.specs.rules.Answer.{Answer, answerOf}
 use Rattle.plan.specs.declared.refusal.Outcome.{Outcome}
@@ -43,9 +44,14 @@ abbrev pub sideAskedNumber : AskedSide → ℕ
 sideAskedNumber (SideIs side) = 0
 sideAskedNumber (NoSide why) = numberOf why
 
--- and the side it carries.
-abbrev pub sideCarried : AskedSide → Option Side
-sideCarried (SideIs side) = some side
+-- the number of half units that a side carries, where it is a number and not free,
+abbrev pub sideNumber : Side → Option ℕ
+sideNumber (Number side) = some (side .0)
+sideNumber Free = none
+
+-- and what the answer carries: such a number, or free.
+abbrev pub sideCarried : AskedSide → Option (Option ℕ)
+sideCarried (SideIs side) = some (sideNumber side)
 sideCarried (NoSide why) = none
 
 -- The number of the answer when a corner is asked,
@@ -99,7 +105,7 @@ abbrev pub enterNumber : List Site → List ℕ → ℕ → ℕ → ℕ
 enterNumber sites name x y =
     numberIf (not (isName name)) 2
     (numberIf (not (leb x greatestCoordinate && leb y greatestCoordinate)) 3
-    (numberIf (leb 240 (length sites)) 7
+    (numberIf (leb mostSites (length sites)) 7
     (numberIf (nameTaken sites name) 4
     (numberIf (placeTaken sites (placeAt x y)) 5 0))))
 
@@ -146,6 +152,10 @@ placeWhere false false plan = record { outcome = Done; plan = placed (sitesIn pl
 -- A plan has no sites where its count is 0, and the table is short below n × n bytes.
 abbrev pub placedIn : Plan → List ℕ → Planned
 placedIn plan table = placeWhere (eqb (plan .count) 0) (ltb (length table) (plan .count * plan .count)) plan
+
+-- The work table that a full plan needs, and with it every plan has room.
+abbrev pub fullTable : ℕ
+fullTable = mostSites * mostSites
 
 -- "Placing tests 8, 11."
 abbrev pub placeNumber : Plan → List ℕ → ℕ

@@ -27,20 +27,31 @@ abbrev pub refusedIf : Bool → Refusal → Sites → Sites
 refusedIf true why otherwise = refused why
 refusedIf false why otherwise = otherwise
 
--- One site more, by the tests 7, 4, 5.
+-- The order of the tests, 2, 3, 7, 4, 5, over which of them fail. Where none does, these sites stand.
+abbrev pub tested : (unnamed outside full named placed : Bool) → List Site → Sites
+tested unnamed outside full named placed more =
+    refusedIf unnamed Name
+    (refusedIf outside Coordinate
+    (refusedIf full Full
+    (refusedIf named NameTaken
+    (refusedIf placed PlaceTaken
+    (accepted more)))))
+
+-- One site more: the tests 7, 4, 5.
 unfoldable pub appended : List Site → Site → Sites
 appended sites site =
-    refusedIf (leb mostSites (length sites)) Full
-    (refusedIf (nameTaken sites (site .name)) NameTaken
-    (refusedIf (placeTaken sites (site .place)) PlaceTaken
-    (accepted (sites ++ (site ∷ [])))))
+    tested false false (leb mostSites (length sites)) (nameTaken sites (site .name)) (placeTaken sites (site .place)) (sites ++ (site ∷ []))
 
--- Entering a name and two numbers: 2, 3, then 7, 4, 5.
+-- Entering a name and two numbers: all of them.
 unfoldable pub entered : List Site → List ℕ → ℕ → ℕ → Sites
 entered sites name x y =
-    refusedIf (not (isName name)) Name
-    (refusedIf (not (leb x greatestCoordinate && leb y greatestCoordinate)) Coordinate
-    (appended sites (record { name = name; place = placeAt x y })))
+    tested
+    (not (isName name))
+    (not (leb x greatestCoordinate && leb y greatestCoordinate))
+    (leb mostSites (length sites))
+    (nameTaken sites name)
+    (placeTaken sites (placeAt x y))
+    (sites ++ (record { name = name; place = placeAt x y } ∷ []))
 
 -- What is refused is not accepted.
 pub refused-not-accepted : {why : Refusal} {more : List Site} → refused why ≡ accepted more → ⊥
@@ -163,7 +174,7 @@ listed-fresh before site after listed =
 -- Entering by the rules keeps the sites by the rules.
 pub entered-listed : (sites : List Site) (name : List ℕ) (x y : ℕ) (more : List Site) → Listed sites → entered sites name x y ≡ accepted more
     → Listed more
-unfolding entered
+unfolding entered appended
 entered-listed sites name x y more listed e =
     let named = accepted-if (not (isName name)) Name _ more e in
     let fits = accepted-if (not (leb x greatestCoordinate && leb y greatestCoordinate)) Coordinate _ more (named .1) in

@@ -13,7 +13,7 @@ use lib.ListN.{length, length-append}
 use lib.Seq.{append-snoc}
 use Rattle.placing.specs.rules.Units.{greatestCoordinate, xOf, yOf}
 use Rattle.plan.specs.declared.refusal.Refusal.the-variants.{Line, Name, Coordinate}
-use Rattle.plan.specs.rules.Text.{tab, lineFeed, Cut, firstLine, fieldsOf}
+use Rattle.plan.specs.rules.Text.{tab, lineFeed, Cut, firstLine, fieldsOf, endedLine}
 use Rattle.plan.specs.rules.Text.{Without, CutOf, cut-found, cut-is, without-append, joined, fields-one, fields-more, fields-joined}
 use Rattle.plan.specs.rules.Number.{numberIn, asCoordinate, coordinateIn, decimal, number-decimal, decimal-number, decimal-without, decimal-short}
 use Rattle.plan.specs.rules.Name.{isName, name-without, name-short}
@@ -147,7 +147,7 @@ entered-line-listed sites line more listed e =
 -- The line of a site by the rules.
 module _ (site : Site) (rules : ByRules site) where
   -- It has at most 20 bytes.
-  line-short : length (listLine site) < 21
+  line-short : length (listLine site) < endedLine
   unfolding listLine
   line-short =
       omega (
@@ -232,14 +232,14 @@ read-enough (suc k) (suc m) sites (b ∷ text) enough-k enough-m = go (read-enou
         → (first : Option Cut) → firstLine (b ∷ text) ≡ first → withLine (readLines k) sites first ≡ withLine (readLines m) sites first
     go same none is = refl
     go same (some cut) is =
-        let long = cut-length (cut-is 21 (b ∷ text) cut is) in
+        let long = cut-length (cut-is endedLine (b ∷ text) cut is) in
         after (cut .rest) (λ more. same more (cut .rest) (omega arith) (omega arith)) (enteredLine sites (cut .line))
 
 -- A line that is read and accepted, with what follows.
 record Read (follow : List Site → List ℕ → Sites) (sites : List Site) (text : List ℕ) (more : List Site) : Type 0 where
   cut : Cut
   next : List Site
-  cut-of : CutOf 21 text cut
+  cut-of : CutOf endedLine text cut
   entered-next : enteredLine sites (cut .line) ≡ accepted next
   followed : follow next (cut .rest) ≡ accepted more
 
@@ -248,14 +248,14 @@ read-first : (follow : List Site → List ℕ → Sites) (sites : List Site) (te
     → withLine follow sites (firstLine text) ≡ accepted more → Read follow sites text more
 read-first follow sites text more e = go (firstLine text) refl e
   where
-    after : (cut : Cut) → CutOf 21 text cut → (entered : Sites) → enteredLine sites (cut .line) ≡ entered
+    after : (cut : Cut) → CutOf endedLine text cut → (entered : Sites) → enteredLine sites (cut .line) ≡ entered
         → afterLine follow entered (cut .rest) ≡ accepted more → Read follow sites text more
     after cut is (accepted next) is-next e = record { cut = cut; next = next; cut-of = is; entered-next = is-next; followed = e }
     after cut is (refused why) is-next e = absurd (refused-not-accepted e)
 
     go : (first : Option Cut) → firstLine text ≡ first → withLine follow sites first ≡ accepted more → Read follow sites text more
     go none is e = absurd (refused-not-accepted e)
-    go (some cut) is e = after cut (cut-is 21 text cut is) (enteredLine sites (cut .line)) refl e
+    go (some cut) is e = after cut (cut-is endedLine text cut is) (enteredLine sites (cut .line)) refl e
 
 -- Reading lines keeps the sites by the rules.
 lines-listed : (k : ℕ) (sites : List Site) (text : List ℕ) (more : List Site) → Listed sites → readLines k sites text ≡ accepted more
@@ -301,7 +301,7 @@ line-read : (k : ℕ) (sites : List Site) (site : Site) (rest : List ℕ) → By
 line-read k sites site rest rules added =
     rw (
       read-next k sites (listLine site ++ (lineFeed ∷ rest)) (omega (arith, length-append (listLine site) (lineFeed ∷ rest))),
-      cut-found 21 (listLine site) rest (line-without site rules) (line-short site rules),
+      cut-found endedLine (listLine site) rest (line-without site rules) (line-short site rules),
       line-entered site rules sites,
       added,
     )

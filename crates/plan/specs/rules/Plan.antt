@@ -9,12 +9,12 @@ use lib.ListN.{length, take, replicate, length-map}
 use lib.Seq.{take-append-seam, take-at}
 use Rattle.placing.specs.declared.units.Place.{Place}
 use Rattle.placing.specs.declared.units.Side.the-variants.{Free}
-use Rattle.placing.specs.rules.Units.{nowhere, Distinct}
+use Rattle.placing.specs.rules.Units.{nowhere, Distinct, mostSites}
 use Rattle.placing.specs.rules.Answer.{Answer, answerOf, answer-is}
 use Rattle.placing.specs.rules.Placing.{placedAs}
 use Rattle.plan.specs.declared.name.Name.{Name}
 use Rattle.plan.specs.declared.plan.Plan.{Plan}
-use Rattle.plan.specs.rules.Name.{nameOf, bytesOf}
+use Rattle.plan.specs.rules.Name.{nameOf, bytesOf, mostNameBytes}
 use Rattle.plan.specs.rules.Site.{Site, nameIn, placeOf, placesOf, Listed}
 use Rattle.plan.specs.rules.Sheet.{answer-corners}
 
@@ -24,11 +24,11 @@ nameRecord site = nameOf (nameIn site)
 
 -- The names of some sites, then empty slots.
 abbrev pub namesHeld : List Site → List Name
-namesHeld sites = map nameRecord sites ++ replicate (240 - length sites) (nameOf [])
+namesHeld sites = map nameRecord sites ++ replicate (mostSites - length sites) (nameOf [])
 
 -- The places of some sites, then empty slots.
 abbrev pub placesHeld : List Site → List Place
-placesHeld sites = placesOf sites ++ replicate (240 - length sites) nowhere
+placesHeld sites = placesOf sites ++ replicate (mostSites - length sites) nowhere
 
 -- The plan of some sites while it is not placed. Its side and corners are as the constructor leaves them.
 unfoldable pub unplaced : List Site → Plan
@@ -39,7 +39,7 @@ unplaced sites =
       places = placesHeld sites;
       placed = false;
       side = Free;
-      corners = replicate 240 0;
+      corners = replicate mostSites 0;
     }
 
 -- The plan of some sites once it is placed: with the answer for their places.
@@ -70,14 +70,14 @@ unfolding sitesFrom
 sites-side-by-side [] = refl
 sites-side-by-side (site ∷ sites) =
     ap₂ (λ (name : List ℕ) (rest : List Site). record { name = name; place = site .place } ∷ rest)
-    (take-append-seam (site .name) (replicate (8 - length (site .name)) 0)) (sites-side-by-side sites)
+    (take-append-seam (site .name) (replicate (mostNameBytes - length (site .name)) 0)) (sites-side-by-side sites)
 
 -- So what is held of some sites, the empty slots left out, is these sites.
 sites-held : (sites : List Site) → sitesFrom (take (length sites) (namesHeld sites)) (take (length sites) (placesHeld sites)) ≡ sites
 sites-held sites =
     rw (
-      take-at (map nameRecord sites) (replicate (240 - length sites) (nameOf [])) (length sites) (length-map sites nameRecord),
-      take-at (placesOf sites) (replicate (240 - length sites) nowhere) (length sites) (length-map sites placeOf),
+      take-at (map nameRecord sites) (replicate (mostSites - length sites) (nameOf [])) (length sites) (length-map sites nameRecord),
+      take-at (placesOf sites) (replicate (mostSites - length sites) nowhere) (length sites) (length-map sites placeOf),
     )
     (sites-side-by-side sites)
 

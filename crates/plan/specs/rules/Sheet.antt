@@ -3,13 +3,13 @@
 -- Assumes nothing.
 use mathlib.Core.Path.{_≡_, refl, ap, _∙_}
 use mathlib.Core.List.{List, [], _∷_, _++_}
-use Prim.Native.Nat.{ℕ, suc, _*_, _≤_, _<_}
+use Prim.Native.Nat.{ℕ, suc, _+_, _*_, _≤_, _<_}
 use native.Mathlib.Omega.{arith}
 use lib.ListN.{length, getD, length-append, length-map}
 use Rattle.placing.specs.declared.units.Place.{Place}
 use Rattle.placing.specs.declared.units.Side.{Side}
 use Rattle.placing.specs.declared.units.Side.the-variants.{Number, Free}
-use Rattle.placing.specs.rules.Units.{freeSide, xOf, yOf}
+use Rattle.placing.specs.rules.Units.{mostSites, freeSide, xOf, yOf}
 use Rattle.placing.specs.rules.Corner.{Corner}
 use Rattle.placing.specs.rules.Choice.{Corners, Good, cornerAt}
 use Rattle.placing.specs.rules.Answer.{Answer, answerOf, IsAnswer, is-free, is-number, answer-is}
@@ -190,8 +190,20 @@ line-sized {site} {corner} rules c =
     let name-is-some = name-some (site .name) (rules .named) in
     record { least = simp length-append (omega arith); most = simp length-append (omega arith) }
 
+-- The most bytes of the first line: the word side, a tab, five digits, a line feed.
+abbrev pub longestSideLine : ℕ
+longestSideLine = 11
+
+-- The most bytes of the line of a site: a name, two numbers of five digits, a corner, each with a tab or line feed behind it.
+abbrev pub longestSiteLine : ℕ
+longestSiteLine = 23
+
+-- No sheet is longer: a bound, which is never reached.
+abbrev pub longestSheet : ℕ
+longestSheet = longestSideLine + mostSites * longestSiteLine
+
 -- So the lines of the sites have at most 23 bytes each, with their line feeds,
-lines-longest : {sites : List Site} {corners : List ℕ} → Lined sites corners → length (siteLines sites corners) ≤ 23 * length sites
+lines-longest : {sites : List Site} {corners : List ℕ} → Lined sites corners → length (siteLines sites corners) ≤ longestSiteLine * length sites
 unfolding siteLines
 lines-longest no-line = omega arith
 lines-longest (one-more {site} {sites} {corner} {corners} rules c rest) =
@@ -208,8 +220,8 @@ lines-shortest (one-more {site} {sites} {corner} {corners} rules c rest) =
     let more = lines-shortest rest in
     omega (arith, length-append (siteLine site corner) (lineFeed ∷ siteLines sites corners))
 
--- The longest sheet: 11 bytes and 240 lines of 23.
-pub sheet-longest : (sites : List Site) → Listed sites → length (sheetOf sites) ≤ 5531
+-- The longest sheet.
+pub sheet-longest : (sites : List Site) → Listed sites → length (sheetOf sites) ≤ longestSheet
 unfolding sheetOf sheetWith
 sheet-longest sites listed =
     let side = side-short (answer-is (placesOf sites) (listed .places-distinct)) in

@@ -39,9 +39,13 @@ cutWithin (suc k) (b ∷ text) =
 abbrev pub mostLineBytes : ℕ
 mostLineBytes = 20
 
+-- With its line feed it has one more.
+abbrev pub endedLine : ℕ
+endedLine = suc mostLineBytes
+
 -- The text cut at the end of its first line, if that is no longer.
 abbrev pub firstLine : List ℕ → Option Cut
-firstLine text = cutWithin (suc mostLineBytes) text
+firstLine text = cutWithin endedLine text
 
 -- The lines of a text after the bytes of a line so far.
 unfoldable pub linesAfter : List ℕ → List ℕ → List (List ℕ)

@@ -11,7 +11,7 @@ use borrow.Author.Tests.{leb-true, leb-false, ltb-true, eqb-true, not-true}
 use lib.Dec.{leb, ltb, eqb}
 use lib.ListN.{length}
 use lib.Seq.{append-snoc}
-use Rattle.placing.specs.rules.Units.{greatestCoordinate}
+use Rattle.placing.specs.rules.Units.{greatestCoordinate, mostSites}
 use Rattle.placing.specs.rules.Choice.{cornerAt}
 use Rattle.plan.specs.declared.refusal.Outcome.the-variants.{Refused}
 use Rattle.plan.specs.declared.refusal.Refusal.{Refusal}
@@ -33,7 +33,7 @@ use Rattle.plan.specs.declared.plan.AskedSide.the-variants.{NoSide}
 use Rattle.plan.specs.declared.plan.AskedCorner.the-variants.{NoCorner}
 use Rattle.plan.specs.declared.plan.Written.the-variants.{NotWritten}
 use Rattle.plan.specs.rules.Refusal.{numberOf}
-use Rattle.plan.specs.rules.Text.{lineFeed, Cut, CutOf, cut-is, firstLine}
+use Rattle.plan.specs.rules.Text.{lineFeed, Cut, CutOf, cut-is, firstLine, endedLine}
 use Rattle.plan.specs.rules.Name.{isName}
 use Rattle.plan.specs.rules.Site.{Site, placeAt, nameTaken, placeTaken, Listed}
 use Rattle.plan.specs.rules.Enter.{Sites, accepted, refused, refusedIf, appended, entered, refused-not-accepted, appended-more, listed-none}
@@ -55,7 +55,7 @@ pub data EnterCondition (sites : List Site) (name : List ℕ) (x y : ℕ) : Refu
   far-x : greatestCoordinate < x → EnterCondition sites name x y Coordinate
   far-y : greatestCoordinate < y → EnterCondition sites name x y Coordinate
   -- 7: entering where 240 sites stand
-  full : 240 ≤ length sites → EnterCondition sites name x y Full
+  full : mostSites ≤ length sites → EnterCondition sites name x y Full
   -- 4: a name already in the plan
   name-taken : nameTaken sites name ≡ true → EnterCondition sites name x y NameTaken
   -- 5: a place already in the plan
@@ -121,7 +121,7 @@ unfolding entered appended
 entered-condition sites name x y =
     refused-if holds (not (isName name)) Name _ (λ is. no-name (not-true (isName name) is))
     (refused-if holds (not (leb x greatestCoordinate && leb y greatestCoordinate)) Coordinate _ (one-far x y far-x far-y)
-    (refused-if holds (leb 240 (length sites)) Full _ (λ is. full (leb-true 240 (length sites) is))
+    (refused-if holds (leb mostSites (length sites)) Full _ (λ is. full (leb-true mostSites (length sites) is))
     (refused-if holds (nameTaken sites name) NameTaken _ name-taken
     (refused-if holds (placeTaken sites (placeAt x y)) PlaceTaken _ place-taken
     (λ is. let z : _≡_ {A = ℕ} 0 1 = cc in absurd (omega arith))))))
@@ -222,7 +222,7 @@ refused-here {sites} {text} listed some-text here =
     }
 
 -- or it stands after a line that is accepted.
-refused-later : {sites next : List Site} {text : List ℕ} {cut : Cut} {why : Refusal} → CutOf 21 text cut
+refused-later : {sites next : List Site} {text : List ℕ} {cut : Cut} {why : Refusal} → CutOf endedLine text cut
     → enteredLine sites (cut .line) ≡ accepted next → RefusedAfter next (cut .rest) why → RefusedAfter sites text why
 unfolding listText
 refused-later {sites} {next} {text} {cut} {why} cut-of is after =
@@ -258,7 +258,7 @@ lines-condition (suc k) sites (b ∷ text) why listed is = by-line (lines-condit
     by-entered : LinesCondition k → (cut : Cut) → firstLine (b ∷ text) ≡ some cut → (entered : Sites) → enteredLine sites (cut .line) ≡ entered
         → afterLine (readLines k) entered (cut .rest) ≡ refused why → RefusedAfter sites (b ∷ text) why
     by-entered further cut first (accepted next) so is =
-        refused-later (cut-is 21 (b ∷ text) cut first) so
+        refused-later (cut-is endedLine (b ∷ text) cut first) so
         (further next (cut .rest) why (entered-line-listed sites (cut .line) next listed so) is)
     by-entered further cut first (refused other) so is = refused-here listed (omega arith) (ap (enteredFirst sites) first ∙ so ∙ is)
 

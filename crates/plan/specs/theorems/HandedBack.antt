@@ -16,7 +16,7 @@ use Rattle.plan.specs.declared.plan.Plan.{Plan}
 use Rattle.plan.specs.declared.plan.Planned.{Planned}
 use Rattle.plan.specs.rules.Name.{isName}
 use Rattle.plan.specs.rules.Site.{Site, Listed, placeAt}
-use Rattle.plan.specs.rules.Enter.{Sites, accepted, refused, accepted-if, appended-more, entered, entered-listed, listed-none}
+use Rattle.plan.specs.rules.Enter.{appended, Sites, accepted, refused, accepted-if, appended-more, entered, entered-listed, listed-none}
 use Rattle.plan.specs.rules.List.{readList, readLines, listText, read-listed, list-read}
 use Rattle.plan.specs.rules.Plan.{unplaced, sitesIn, sites-unplaced, Valid, is-unplaced, is-placed}
 use Rattle.plan.specs.rules.Calls.{started, plannedOr, enteredIn, readFrom, placeWhere, placedIn, counted}
@@ -98,7 +98,7 @@ handed-valid (by-place table before) = place-valid table (handed-valid before)
 -- Sites that a site was entered into are one more.
 entered-more : (sites : List Site) (name : List ℕ) (x y : ℕ) (more : List Site) → entered sites name x y ≡ accepted more
     → length more ≡ length sites + 1
-unfolding entered
+unfolding entered appended
 entered-more sites name x y more is =
     let site : Site = record { name = name; place = placeAt x y } in
     let named = accepted-if (not (isName name)) Name _ more is in

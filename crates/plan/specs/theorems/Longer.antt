@@ -10,12 +10,17 @@ use lib.ListN.{length, take, drop, take-append-drop, length-append, length-take}
 use lib.Seq.{take-append-add}
 use Rattle.plan.specs.declared.refusal.Refusal.{Refusal}
 use Rattle.plan.specs.declared.refusal.Refusal.the-variants.{Line}
-use Rattle.plan.specs.rules.Text.{lineFeed, Cut, cutWithin, firstLine, CutOf, cut-found, cut-is}
+use Rattle.plan.specs.rules.Text.{lineFeed, Cut, cutWithin, firstLine, CutOf, cut-found, cut-is, endedLine}
 use Rattle.plan.specs.rules.Site.{Site}
 use Rattle.plan.specs.rules.Enter.{Sites, accepted, refused, appended-more, appended-fresh}
 use Rattle.plan.specs.rules.List.{enteredLine, afterLine, withLine, readLines, readList}
 use Rattle.plan.specs.rules.List.{read-next, read-whole, read-enough, cut-length, entered-line}
 use Rattle.plan.specs.rules.Output.{outputFor, outputOf}
+use Rattle.placing.specs.rules.Units.{mostSites}
+
+-- A line for each site and one more, with their line feeds: 5,061 bytes.
+abbrev pub longestText : ℕ
+longestText = (mostSites + 1) * endedLine
 
 -- A cut text that is shortened after its first k bytes is cut at the same place, and its rest is shortened.
 cut-take : (k m : ℕ) (text : List ℕ) (cut : Cut) → CutOf k text cut → k ≤ m
@@ -49,8 +54,8 @@ BothRefused one other = (why : Refusal) × (one ≡ refused why) × (other ≡ r
 -- first m bytes.
 abbrev Refuses : ℕ → Type 0
 Refuses k =
-    (m left : ℕ) (sites : List Site) (text : List ℕ) → length text ≤ k → 240 ≤ length sites + left → 21 * left + 21 ≤ length text
-    → 21 * left + 21 ≤ m → BothRefused (readLines k sites text) (readLines k sites (take m text))
+    (m left : ℕ) (sites : List Site) (text : List ℕ) → length text ≤ k → mostSites ≤ length sites + left → endedLine * left + endedLine ≤ length text
+    → endedLine * left + endedLine ≤ m → BothRefused (readLines k sites text) (readLines k sites (take m text))
 
 -- Line after line: a refused line decides both, an accepted one takes at most 21 bytes and the room of one site.
 lines-refused : (k : ℕ) → Refuses k
@@ -60,7 +65,7 @@ lines-refused (suc k) m left sites text enough full long longer =
     (read-next k sites text (omega arith), read-next k sites (take m text) (omega (arith, length-take m text)))
     (go (lines-refused k) (firstLine text) refl)
   where
-    after : Refuses k → (cut : Cut) → CutOf 21 text cut → (entered : Sites) → enteredLine sites (cut .line) ≡ entered
+    after : Refuses k → (cut : Cut) → CutOf endedLine text cut → (entered : Sites) → enteredLine sites (cut .line) ≡ entered
         → BothRefused (afterLine (readLines k) entered (cut .rest))
         (afterLine (readLines k) entered (take (m - suc (length (cut .line))) (cut .rest)))
     after further cut is (refused why) e = (why, refl, refl)
@@ -75,24 +80,24 @@ lines-refused (suc k) m left sites text enough full long longer =
 
     go : Refuses k → (first : Option Cut) → firstLine text ≡ first
         → BothRefused (withLine (readLines k) sites (firstLine text)) (withLine (readLines k) sites (firstLine (take m text)))
-    go further none is = rw (is, no-cut-take 21 m text is) (Line, refl, refl)
+    go further none is = rw (is, no-cut-take endedLine m text is) (Line, refl, refl)
     go further (some cut) is =
-        let cut-of = cut-is 21 text cut is in
-        rw (is, cut-take 21 m text cut cut-of (omega arith)) (after further cut cut-of (enteredLine sites (cut .line)) refl)
+        let cut-of = cut-is endedLine text cut is in
+        rw (is, cut-take endedLine m text cut cut-of (omega arith)) (after further cut cut-of (enteredLine sites (cut .line)) refl)
 
 -- A text of 5,061 bytes or more is refused, and its first 5,061 bytes decide why.
-pub longer-refused : (text : List ℕ) → 5061 ≤ length text
-    → (why : Refusal) × (readList text ≡ refused why) × (readList (take 5061 text) ≡ refused why)
+pub longer-refused : (text : List ℕ) → longestText ≤ length text
+    → (why : Refusal) × (readList text ≡ refused why) × (readList (take longestText text) ≡ refused why)
 longer-refused text long =
-    let both = lines-refused (length text) 5061 240 [] text (omega arith) (omega arith) (omega arith) (omega arith) in (
+    let both = lines-refused (length text) longestText mostSites [] text (omega arith) (omega arith) (omega arith) (omega arith) in (
       both .0,
       read-whole text ∙ both .1,
-      read-whole (take 5061 text)
-          ∙ read-enough (length (take 5061 text)) (length text) [] (take 5061 text) (omega arith) (omega (arith, length-take 5061 text))
+      read-whole (take longestText text)
+          ∙ read-enough (length (take longestText text)) (length text) [] (take longestText text) (omega arith) (omega (arith, length-take longestText text))
           ∙ both .2,
     )
 
 -- So its output is that of its first 5,061 bytes.
-pub output-longer : (text : List ℕ) → 5061 ≤ length text → outputOf text ≡ outputOf (take 5061 text)
+pub output-longer : (text : List ℕ) → longestText ≤ length text → outputOf text ≡ outputOf (take longestText text)
 unfolding outputOf
 output-longer text long = let both = longer-refused text long in ap outputFor (both .1 ∙ sym (both .2))

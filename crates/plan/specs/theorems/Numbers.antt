@@ -8,7 +8,7 @@ use Prim.Native.Nat.{ℕ, _*_}
 use lib.Dec.{leb, ltb, eqb}
 use lib.ListN.{length}
 use Rattle.placing.specs.declared.units.Side.{Side}
-use Rattle.placing.specs.rules.Units.{greatestCoordinate}
+use Rattle.placing.specs.rules.Units.{greatestCoordinate, mostSites}
 use Rattle.placing.specs.rules.Choice.{cornerAt}
 use Rattle.plan.specs.declared.refusal.Refusal.{Refusal}
 use Rattle.plan.specs.declared.refusal.Refusal.the-variants as refusal
@@ -29,6 +29,7 @@ use Rattle.plan.specs.rules.Plan.{sitesIn, Valid}
 use Rattle.plan.specs.rules.Calls.{
   outcomeNumber,
   sideAskedNumber,
+  sideNumber,
   sideCarried,
   cornerAskedNumber,
   cornerCarried,
@@ -75,16 +76,16 @@ entered-number sites name x y =
     ∙ ap (numberIf (not (isName name)) 2)
     (number-if (not (leb x greatestCoordinate && leb y greatestCoordinate)) refusal.Coordinate _
     ∙ ap (numberIf (not (leb x greatestCoordinate && leb y greatestCoordinate)) 3)
-    (number-if (leb 240 (length sites)) refusal.Full _
-    ∙ ap (numberIf (leb 240 (length sites)) 7)
+    (number-if (leb mostSites (length sites)) refusal.Full _
+    ∙ ap (numberIf (leb mostSites (length sites)) 7)
     (number-if (nameTaken sites name) refusal.NameTaken _
     ∙ ap (numberIf (nameTaken sites name) 4)
     (number-if (placeTaken sites (placeAt x y)) refusal.PlaceTaken _))))
 
 -- The numbers of a line are entered: by the tests of entering, where the name is one.
-coordinates-entered : (sites : List Site) (name : List ℕ) (n m : ℕ) → isName name ≡ true
+pub coordinates-entered : (sites : List Site) (name : List ℕ) (n m : ℕ) → isName name ≡ true
     → withCoordinates (asCoordinate (some n)) (asCoordinate (some m)) sites name ≡ entered sites name n m
-unfolding entered
+unfolding entered appended
 coordinates-entered sites name n m named = rw named (by-tests (leb n greatestCoordinate) (leb m greatestCoordinate))
   where
     by-tests : (p q : Bool) → withCoordinates (elim p [ true ↦ some n | false ↦ none ]) (elim q [ true ↦ some m | false ↦ none ]) sites name
@@ -163,12 +164,12 @@ place-number plan table is =
 
 -- Asking the side gives 9, or the side.
 pub side-told : {r : AskedSide} (plan : Plan) → r ≡ sideAsked plan
-    → (sideAskedNumber r ≡ askSideNumber plan) × (sideCarried r ≡ carriedAt (askSideNumber plan) (answerFor plan .side))
+    → (sideAskedNumber r ≡ askSideNumber plan) × (sideCarried r ≡ carriedAt (askSideNumber plan) (sideNumber (answerFor plan .side)))
 side-told plan is =
     let told = by-test (plan .placed) (answerFor plan .side) in (ap sideAskedNumber is ∙ told .0, ap sideCarried is ∙ told .1)
   where
     by-test : (placed : Bool) (side : Side) → (sideAskedNumber (sideWhere placed side) ≡ numberIf (not placed) 9 0)
-        × (sideCarried (sideWhere placed side) ≡ carriedAt (numberIf (not placed) 9 0) side)
+        × (sideCarried (sideWhere placed side) ≡ carriedAt (numberIf (not placed) 9 0) (sideNumber side))
     by-test true side = (refl, refl)
     by-test false side = (refl, refl)
 

@@ -10,7 +10,7 @@ use Rattle.plan.specs.declared.refusal.Refusal.the-variants.{NoSites}
 use Rattle.plan.specs.rules.Site.{Site, placesOf, Listed}
 use Rattle.plan.specs.rules.Enter.{Sites, accepted, refused}
 use Rattle.plan.specs.rules.List.{readList, read-listed}
-use Rattle.plan.specs.rules.Sheet.{sheetOf, sheet-longest}
+use Rattle.plan.specs.rules.Sheet.{sheetOf, sheet-longest, longestSheet}
 use Rattle.plan.specs.rules.Calls.{sitesNumber}
 use Rattle.plan.specs.rules.Output.{numberLine, refusalLine, outputFor, outputOf, output-sheet}
 use Rattle.plan.specs.code.Refusing.{refusal-short}
@@ -66,11 +66,11 @@ output-demanded text =
     }
 
 -- The longest output is a sheet: a program that lends 5,531 bytes is never refused.
-pub output-longest : (text : List ℕ) → length (outputOf text) ≤ 5531
+pub output-longest : (text : List ℕ) → length (outputOf text) ≤ longestSheet
 unfolding outputOf
 output-longest text = by-sites (readList text) refl
   where
-    by-sites : (sites : Sites) → readList text ≡ sites → length (outputFor sites) ≤ 5531
+    by-sites : (sites : Sites) → readList text ≡ sites → length (outputFor sites) ≤ longestSheet
     by-sites (accepted []) read = omega (arith, refusal-short NoSites)
     by-sites (accepted (site ∷ sites)) read = sheet-longest (site ∷ sites) (read-listed text (site ∷ sites) read)
     by-sites (refused why) read = omega (arith, refusal-short why)

@@ -2,7 +2,7 @@
 -- Assumes nothing.
 use mathlib.Core.Path.{_≡_, refl, sym, ap, _∙_, subst}
 use mathlib.Core.List.{List, [], _∷_, _++_, append-assoc}
-use mathlib.Core.Option.{Option, some, none}
+use mathlib.Core.Option.{some, none}
 use Prim.Native.Nat.{ℕ, _*_, _≤_, _<_}
 use native.Mathlib.Omega.{arith}
 use lib.ListN.{length}
@@ -50,6 +50,7 @@ use Rattle.plan.specs.rules.ReadOff.{
 }
 use Rattle.plan.specs.rules.Output.{refusedWord, refusalLine, outputOf, output-sheet}
 use Rattle.plan.specs.Demands.{NoRival}
+use Rattle.plan.specs.rules.Calls.{sideNumber}
 
 -- ---- fields
 
@@ -118,11 +119,6 @@ pub output-again : (text : List ℕ) (sites : List Site) → readList text ≡ a
 output-again text sites read nonempty = ap outputOf (text-again text sites read nonempty)
 
 -- ---- the number and the spots
-
--- The number of a side, where it is one.
-abbrev pub sideNumber : Side → Option ℕ
-sideNumber (Number side) = some (side .0)
-sideNumber Free = none
 
 -- An answer's side is read as it was written: the word free is no number.
 side-read : {ps : List Place} {a : Answer} → IsAnswer ps a → numberIn (sideText (a .side)) ≡ sideNumber (a .side)

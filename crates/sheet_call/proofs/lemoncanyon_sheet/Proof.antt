@@ -10,11 +10,12 @@ use Rattle.plan.specs.declared.plan.Written.{Written}
 use Rattle.sheet_call.specs.Call.{called}
 use Rattle.sheet_call.specs.CallLaws.{read-refuses, place-refuses, write-calls, asCalled, call-meets, refusal-meets}
 use Rattle.sheet_call.proofs.lemoncanyon_sheet.Statement.{statement}
+use Rattle.plan.specs.rules.Calls.{fullTable}
 use Rattle.sheet_call.proofs.lemoncanyon_sheet.Tie as tie
 
 -- The work table as it is lent.
 abbrev table : List ℕ
-table = replicate 57600 0
+table = replicate fullTable 0
 
 read-requires : tie.Need-read-requires
 read-requires c κs = search needs
@@ -63,7 +64,7 @@ returns-2 c =
     let listed = read-done .before .before in
     let start = listed .before .before .before in
     refusal-meets (now (start .args .list)) (now (start .args .buffer)) (refused .0 .0)
-    (place-refuses (now (start .args .list)) (now (start .args .buffer)) table (length-replicate {A = ℕ} 57600 0) (listed .read .ensures .0)
+    (place-refuses (now (start .args .list)) (now (start .args .buffer)) table (length-replicate {A = ℕ} fullTable 0) (listed .read .ensures .0)
     (read-done .enum-told .given .1) (placed .place .ensures .0) (refused .1))
     (c .number-of2 .ensures)
 
@@ -101,7 +102,7 @@ write-is : (c : tie.After-write)
 write-is c =
     let place-told = c .before .before .before in
     let placed = place-told .before .before .before in
-    write-calls (now (start c .args .list)) (now (start c .args .buffer)) table (length-replicate {A = ℕ} 57600 0)
+    write-calls (now (start c .args .list)) (now (start c .args .buffer)) table (length-replicate {A = ℕ} fullTable 0)
     (read-done c .before .before .read .ensures .0) (read-done c .enum-told .given .1) (placed .place .ensures .0)
     (place-told .enum-told2 .given .1) (c .write .ensures .0) (c .write .ensures .1 .0)
 

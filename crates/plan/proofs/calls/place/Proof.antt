@@ -8,6 +8,7 @@ use Rattle.plan.specs.code.CallLaws.{placed-none, placed-short, place-re
 use borrow.Author.Needs.{needs}
 use Rattle.plan.proofs.calls.place.Statement.{statement}
 use Rattle.plan.proofs.calls.place.Tie as tie
+use Rattle.placing.specs.rules.Units.{mostSites}
 
 refuse-requires : tie.Need-refuse-requires
 refuse-requires c κs = search needs
@@ -22,7 +23,7 @@ mul-if2 : tie.Need-mul-if2
 mul-if2 c =
     let start = c .before .before in
     let holding = valid-holding (start .pre) in
-    let few : start .args .plan .count ≤ 240 = omega (arith, holding .count, holding .listed .few) in
+    let few : start .args .plan .count ≤ mostSites = omega (arith, holding .count, holding .listed .few) in
     omega (arith, mul-le-mul few few)
 
 refuse-requires-2 : tie.Need-refuse-requires-2

@@ -6,12 +6,13 @@ use mathlib.Core.Path.{sym}
 use Rattle.plan.specs.code.LineLaws.{LineFrom, line-starts, line-on, line-here, line-short, line-long}
 use Rattle.plan.proofs.list.line_end.Statement.{statement}
 use Rattle.plan.proofs.list.line_end.Tie as tie
+use Rattle.plan.specs.rules.Text.{endedLine}
 
 abbrev Inv-loop : tie.InvT-loop
-Inv-loop text at i₀ i = (i ≤ 21) × LineFrom text at i
+Inv-loop text at i₀ i = (i ≤ endedLine) × LineFrom text at i
 
 abbrev μ-loop : tie.MeasureT-loop
-μ-loop text at i₀ i = 21 - i
+μ-loop text at i₀ i = endedLine - i
 
 loop-holds : tie.Need-loop-holds Inv-loop μ-loop
 loop-holds c = (omega arith, line-starts (c .args .text .now) (c .args .at) (c .pre))

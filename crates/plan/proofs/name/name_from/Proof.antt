@@ -8,14 +8,14 @@ use lib.ListN.{length, getD, set, drop, replicate}
 use borrow.Author.Needs.{needs}
 use borrow.Author.Tests.{not-true, not-false}
 use Rattle.placing.proofs.Copied.{copied, copied-more}
-use Rattle.plan.specs.rules.Name.{nameBytes}
+use Rattle.plan.specs.rules.Name.{nameBytes, mostNameBytes}
 use Rattle.plan.specs.code.NameLaws.{byte-passed, byte-failed, bytes-passed, empty-no-name, long-no-name, short-name, no-name-read, name-read}
 use Rattle.plan.proofs.name.name_from.Statement.{statement}
 use Rattle.plan.proofs.name.name_from.Tie as tie
 
 abbrev Inv-loop : tie.InvT-loop
 Inv-loop text n bytes₀ i₀ bytes i =
-    (n ≡ length text) × (i ≤ n) × (bytes ≡ copied i text (replicate 8 0)) × (nameBytes text ≡ nameBytes (drop i text))
+    (n ≡ length text) × (i ≤ n) × (bytes ≡ copied i text (replicate mostNameBytes 0)) × (nameBytes text ≡ nameBytes (drop i text))
 
 abbrev μ-loop : tie.MeasureT-loop
 μ-loop text n bytes₀ i₀ bytes i = n - i
@@ -74,7 +74,7 @@ loop-again c =
     let of-name = sym (c .before .is-name-byte .ensures) ∙ not-false (c .before .is-name-byte .result) (c .if3 .left) in (
       refl,
       omega arith,
-      ap (λ (bytes : List ℕ). set bytes i (getD text i 0)) (at-loop .loop .inv .2) ∙ copied-more i text (replicate 8 0) (omega arith) (omega arith),
+      ap (λ (bytes : List ℕ). set bytes i (getD text i 0)) (at-loop .loop .inv .2) ∙ copied-more i text (replicate mostNameBytes 0) (omega arith) (omega arith),
       at-loop .loop .inv .3 ∙ byte-passed text i (omega arith) of-name,
     )
 

@@ -7,11 +7,12 @@ use lib.ListN.{replicate, length-replicate}
 use denote.Ref.{now}
 use Rattle.plan.specs.code.Filling.{filled-output, read-refused, place-refused, place-done, refusal-filled, sheet-filled}
 use Rattle.plan.proofs.output.output.Statement.{statement}
+use Rattle.plan.specs.rules.Calls.{fullTable}
 use Rattle.plan.proofs.output.output.Tie as tie
 
 -- The work table as it is lent.
 abbrev table : List ℕ
-table = replicate 57600 0
+table = replicate fullTable 0
 
 read-requires : tie.Need-read-requires
 read-requires c κs = search needs
@@ -64,7 +65,7 @@ returns-2 c =
     let start = listed .before .before .before in
     let filled =
     refusal-filled (now (start .args .text)) (refused .0 .0) (now (start .args .buffer))
-    (place-refused (now (start .args .text)) table (refused .0 .0) (length-replicate {A = ℕ} 57600 0) (listed .read .ensures .0)
+    (place-refused (now (start .args .text)) table (refused .0 .0) (length-replicate {A = ℕ} fullTable 0) (listed .read .ensures .0)
     (read-done .enum-told .given .1) (placed .place .ensures .0) (refused .1))
     (c .before .before .write-refusal2 .ensures .0) (c .before .before .write-refusal2 .ensures .1)
     in
@@ -88,7 +89,7 @@ returns-3 c =
     let start = listed .before .before .before in
     let filled =
     sheet-filled (now (start .args .buffer))
-    (place-done (now (start .args .text)) table (length-replicate {A = ℕ} 57600 0) (listed .read .ensures .0)
+    (place-done (now (start .args .text)) table (length-replicate {A = ℕ} fullTable 0) (listed .read .ensures .0)
     (read-done .enum-told .given .1) (placed .place .ensures .0) (place-told .enum-told2 .given .1))
     (c .before .before .write .ensures .0) (c .before .before .write .ensures .1 .0)
     in

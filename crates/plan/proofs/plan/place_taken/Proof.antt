@@ -1,15 +1,13 @@
 -- `place_taken` meets its contract. The loop's invariant: none of the first `i` places is the place.
 -- Assumes nothing.
-use lib.ListN.{getD, take}
-use Rattle.placing.specs.rules.Units.{nowhere}
 use Prim.Native.Nat.{_≤_, _-_}
 use native.Mathlib.Omega.{arith}
 use mathlib.Core.Path.{_≡_, refl, sym, _∙_}
-use mathlib.Core.Logic.{⊎-elim}
+use lib.ListN.{take}
 use mathlib.Core.Bool.{false}
 use borrow.Author.Needs.{needs}
 use Rattle.plan.specs.rules.Site.{among}
-use Rattle.plan.specs.code.TakenLaws.{among-more, among-one, isAt, place-among, is-at, other-x, other-y}
+use Rattle.plan.specs.code.TakenLaws.{among-more, among-one, isAt, place-among}
 use Rattle.plan.proofs.plan.place_taken.Statement.{statement}
 use Rattle.plan.proofs.plan.place_taken.Tie as tie
 
@@ -28,16 +26,19 @@ mul-other c = search needs
 array-copy-out-other : tie.Need-array-copy-out-other Inv-loop μ-loop
 array-copy-out-other c = search needs
 
+same-place-requires : tie.Need-same-place-requires Inv-loop μ-loop
+same-place-requires c κs = search needs
+
 returns : tie.Need-returns Inv-loop μ-loop
 returns c =
-    let first = c .before .before .before in
-    let head = first .before .before .before .before .before in
+    let call = c .before in
+    let head = call .before .before .before in
     let start = head .before in
     let place = start .args .place in
     sym
     (place-among (take (start .args .n) (start .args .t1)) place
-    ∙ among-one (isAt place) (start .args .t1) (start .args .n) (head .loop .i) nowhere (omega arith) (omega arith)
-    (is-at place (getD (start .args .t1) (head .loop .i) nowhere) (first .if1 .taken) (c .if2 .taken)))
+    ∙ among-one (isAt place) (start .args .t1) (start .args .n) (head .loop .i) _ (omega arith) (omega arith)
+    (sym (call .same-place .ensures) ∙ c .if1 .taken))
 
 add-i : tie.Need-add-i Inv-loop μ-loop
 add-i c = omega arith
@@ -47,13 +48,12 @@ loop-less c = omega arith
 
 loop-again : tie.Need-loop-again Inv-loop μ-loop
 loop-again c =
-    let head = c .before .before .before .before .before in
-    let start = head .before in
-    let place = start .args .place in
-    let other = getD (start .args .t1) (head .loop .i) nowhere in (
+    let call = c .before in
+    let head = call .before .before .before in
+    let start = head .before in (
       omega arith,
-      among-more (isAt place) (start .args .t1) (head .loop .i) nowhere (omega arith) (head .loop .inv .1)
-          (⊎-elim (λ w. other-y place other (w .0 .taken) (w .3 .left)) (λ w. other-x place other (w .left)) (c .if1 .came)),
+      among-more (isAt (start .args .place)) (start .args .t1) (head .loop .i) _ (omega arith) (head .loop .inv .1)
+          (sym (call .same-place .ensures) ∙ c .if1 .left),
     )
 
 returns-2 : tie.Need-returns-2 Inv-loop μ-loop
@@ -71,6 +71,7 @@ place-taken-spec =
     loop-holds
     mul-other
     array-copy-out-other
+    same-place-requires
     returns
     add-i
     loop-less

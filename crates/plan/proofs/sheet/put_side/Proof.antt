@@ -7,6 +7,7 @@ use native.Mathlib.Omega.{arith}
 use Prim.Native.Nat.{_≤_}
 use lib.ListN.{length}
 use denote.Ref.{now}
+use Rattle.placing.specs.rules.Units.{greatestSide}
 use Rattle.plan.specs.rules.Text.{tab}
 use Rattle.plan.specs.rules.Number.{decimal, decimal-short}
 use Rattle.plan.specs.rules.Sheet.{sideWord, sideText}
@@ -34,13 +35,18 @@ put-bytes-requires c κs = search needs
 enum-known-side : tie.Need-enum-known-side
 enum-known-side c = search needs
 
+-- A number that is a side is small.
+number-small : (c : tie.After-side) → c .side .given .0 .0 .0 ≤ greatestSide
+number-small c = rw (c .side .given .1) at (c .before .before .before .before .before .before .before .before .pre .0)
+
 put-decimal-requires : tie.Need-put-decimal-requires
 put-decimal-requires c κs =
-    let number = c .before .before .side .given .0 .0 .0 in
-    let word = c .before .before .before .before .before .before in
-    let small : number ≤ 20000 = rw (c .before .before .side .given .1) at (word .before .before .before .before .pre .0) in
-    let short : length (decimal number) ≤ 5 = decimal-short number (omega arith) in
-    (omega arith, omega (arith, word .put-bytes .ensures .next-is, put-length (word .put-bytes .ensures)))
+    let told = c .before .before in
+    let number = told .side .given .0 .0 .0 in
+    let small = number-small told in
+    let word = told .before .before .before .before in
+    let short : length (decimal number) ≤ 5 = decimal-short number (omega (arith, small)) in
+    (omega (arith, small), omega (arith, short, word .put-bytes .ensures .next-is, put-length (word .put-bytes .ensures)))
 
 enum-told : tie.Need-enum-told
 enum-told c = search needs

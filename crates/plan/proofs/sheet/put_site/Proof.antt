@@ -5,7 +5,7 @@ use Prim.Native.Nat.{_+_, _≤_}
 use native.Mathlib.Omega.{arith}
 use lib.ListN.{length}
 use Rattle.plan.specs.rules.Number.{decimal, decimal-short}
-use Rattle.plan.specs.rules.Name.{bytesOf}
+use Rattle.plan.specs.rules.Name.{bytesOf, mostNameBytes}
 use Rattle.plan.specs.code.Taken.{siteOf}
 use Rattle.plan.specs.code.Composing.{name-text-short, corner-text-short, line-parts}
 use Rattle.plan.specs.code.PutLaws.{put-then, put-same, put-room}
@@ -13,7 +13,7 @@ use Rattle.plan.proofs.sheet.put_site.Statement.{statement}
 use Rattle.plan.proofs.sheet.put_site.Tie as tie
 
 -- Each part is short.
-name-fits : (c : tie.Start) → length (bytesOf (c .args .name)) ≤ 8
+name-fits : (c : tie.Start) → length (bytesOf (c .args .name)) ≤ mostNameBytes
 name-fits c = name-text-short (c .args .name) (c .pre .0)
 
 x-fits : (c : tie.Start) → length (decimal (c .args .place .x .0)) ≤ 5

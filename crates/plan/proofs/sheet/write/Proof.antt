@@ -8,7 +8,7 @@ use Prim.Native.Nat.{_≤_}
 use native.Mathlib.Omega.{arith}
 use lib.ListN.{length}
 use denote.Ref.{now}
-use Rattle.plan.specs.rules.Sheet.{sheetOf, sheet-longest}
+use Rattle.plan.specs.rules.Sheet.{sheetOf, sheet-longest, longestSheet}
 use Rattle.plan.specs.rules.Plan.{sitesIn}
 use Rattle.plan.specs.code.PutLaws.{put-length}
 use Rattle.plan.specs.theorems.Numbers.{write-told}
@@ -21,7 +21,7 @@ is-placed : (c : tie.Else1) → c .before .before .before .args .plan .placed �
 is-placed c = not-false (c .before .before .before .args .plan .placed) (c .if1 .left)
 
 -- The sheet is no longer than the array.
-sheet-fits : (c : tie.Start) → length (sheetOf (sitesIn (c .args .plan))) ≤ 5531
+sheet-fits : (c : tie.Start) → length (sheetOf (sitesIn (c .args .plan))) ≤ longestSheet
 sheet-fits c = sheet-longest (sitesIn (c .args .plan)) (valid-listed (c .pre))
 
 returns : tie.Need-returns

@@ -1,0 +1,124 @@
+-- `enter_read` meets its contract: the plan holds its sites, so that its tests are those of `enteredRead`, and a name and a place
+-- more make it the plan of one site more. Assumes nothing.
+use mathlib.Core.List.{List}
+use Prim.Native.Nat.{_<_}
+use native.Mathlib.Omega.{arith}
+use lib.ListN.{length}
+use borrow.Author.Needs.{needs}
+use borrow.Author.Tests.{leb-false, not-false}
+use Rattle.placing.specs.rules.Units.{mostSites}
+use Rattle.plan.specs.rules.Site.{Site}
+use Rattle.plan.specs.rules.Enter.{appended-listed}
+use Rattle.plan.specs.rules.Plan.{sitesIn}
+use Rattle.plan.specs.code.Taken.{siteOf}
+use Rattle.plan.specs.code.PlanLaws.{Holding, valid-holding, holding-short, holding-more}
+use Rattle.plan.specs.code.CallLaws.{refuses, accepts}
+use Rattle.plan.specs.code.Entering.{read-refused, read-passed, read-appended, read-accepted}
+use Rattle.plan.proofs.plan.enter_read.Statement.{statement}
+use Rattle.plan.proofs.plan.enter_read.Tie as tie
+
+-- The sites of the plan, and what it holds.
+abbrev sites : tie.Start → List Site
+sites c = sitesIn (c .args .plan)
+
+holding : (c : tie.Start) → Holding (c .args .plan) (sites c)
+holding c = valid-holding (c .pre .0)
+
+-- The entry, from behind the tests.
+abbrev start-of : tie.After-first-failed → tie.Start
+start-of c = c .before .before .before .before .before .before .before .before .before
+
+name-taken-requires : tie.Need-name-taken-requires
+name-taken-requires c κs =
+    let start = c .before .before .before .before in
+    (omega (arith, holding start .count, holding start .listed .few), holding-short (holding start), start .pre .1 .short)
+
+place-taken-requires : tie.Need-place-taken-requires
+place-taken-requires c κs =
+    let start = c .before .before .before .before .before in
+    omega (arith, holding start .count, holding start .listed .few)
+
+first-failed-requires : tie.Need-first-failed-requires
+first-failed-requires c κs = search needs
+
+enum-known-outcome : tie.Need-enum-known-outcome
+enum-known-outcome c = search needs
+
+refuse-requires : tie.Need-refuse-requires
+refuse-requires c κs = search needs
+
+returns : tie.Need-returns
+returns c =
+    let told = c .before .before in
+    let call = told .before .before in
+    let taken = call .before .before .before in
+    let start = start-of call in
+    refuses (start .pre .0) (c .refuse .ensures)
+    (read-refused (holding start) (start .args .name) (start .args .place) (taken .before .name-taken .ensures) (taken .place-taken .ensures)
+    (call .first-failed .ensures) (told .outcome .given .1))
+
+enum-told : tie.Need-enum-told
+enum-told c = search needs
+
+-- Where no test fails there is room.
+room : (c : tie.After-enum-told) → start-of (c .before .before) .args .plan .count < mostSites
+room c =
+    let call = c .before .before in
+    let taken = call .before .before .before in
+    let start = start-of call in
+    let passed = read-passed (holding start) (start .args .name) (start .args .place) (taken .before .name-taken .ensures)
+    (taken .place-taken .ensures) (call .first-failed .ensures) (c .enum-told .given .1) in
+    omega (arith, holding start .count, leb-false mostSites (length (sites start)) (passed .has-room))
+
+mul-names : tie.Need-mul-names
+mul-names c = record { fits = omega (arith, room c) }
+
+array-set-from-names : tie.Need-array-set-from-names
+array-set-from-names c = room c
+
+mul-places : tie.Need-mul-places
+mul-places c = record { fits = omega (arith, room c) }
+
+array-set-from-places : tie.Need-array-set-from-places
+array-set-from-places c = room c
+
+add-t19 : tie.Need-add-t19
+add-t19 c = record { fits = omega (arith, room c) }
+
+returns-2 : tie.Need-returns-2
+returns-2 c =
+    let call = c .before .before in
+    let taken = call .before .before .before in
+    let start = start-of call in
+    let name = start .args .name in
+    let place = start .args .place in
+    let passed = read-passed (holding start) name place (taken .before .name-taken .ensures) (taken .place-taken .ensures)
+    (call .first-failed .ensures) (c .enum-told .given .1) in
+    let on-plan = start .pre .2 .on-plan (not-false (place .ok) (passed .is-inside)) in
+    let is-name = not-false (name .ok) (passed .is-named) in
+    accepts (start .args .plan)
+    (appended-listed (sites start) (siteOf (name .name) (place .place)) _ (holding start .listed) (start .pre .1 .named is-name)
+    (on-plan .on-x .range) (on-plan .on-y .range)
+    (read-appended (holding start) name place (taken .before .name-taken .ensures) (taken .place-taken .ensures)
+    (call .first-failed .ensures) (c .enum-told .given .1)))
+    (holding-more (holding start) (name .name) (place .place) (start .pre .1 .held is-name) (room c))
+    (read-accepted (holding start) name place (taken .before .name-taken .ensures) (taken .place-taken .ensures)
+    (call .first-failed .ensures) (c .enum-told .given .1))
+
+pub enter-read-spec : {M : Type 1} → statement M
+enter-read-spec =
+    tie.close
+    (tie.spec
+    name-taken-requires
+    place-taken-requires
+    first-failed-requires
+    enum-known-outcome
+    refuse-requires
+    returns
+    enum-told
+    mul-names
+    array-set-from-names
+    mul-places
+    array-set-from-places
+    add-t19
+    returns-2)

@@ -1,7 +1,7 @@
 // How far each corner reaches before it is crowded. This does not depend on the side that is tried, so it is found once for a
 // list.
 use crate::geometry::doubled_covers;
-use crate::sites::place_at;
+use crate::sites::place_of;
 use crate::units::HalfUnits;
 use crate::units::Limits;
 use crate::units::Place;
@@ -100,7 +100,7 @@ fn reaches_of(xs: &[u32; Limits::SITES], ys: &[u32; Limits::SITES], n: usize, i:
     requires { ⌜ Held n (now xs) (now ys) judgedFree × (i < n) ⌝ }
     ensures { λ r. ⌜ SiteReaches (sitesOf n (now (xs .entry)) (now (ys .entry))) i r ⌝ }
 {
-    let s = place_at(xs, ys, i);
+    let s = place_of(xs[i], ys[i]);
     let most = HalfUnits(Limits::FREE_SIDE).doubled();
     let mut reaches = Reaches {
         first: most,
@@ -109,7 +109,7 @@ fn reaches_of(xs: &[u32; Limits::SITES], ys: &[u32; Limits::SITES], n: usize, i:
         fourth: most,
     };
     for j in 0..n {
-        reaches = passed(reaches, i, s, j, place_at(xs, ys, j));
+        reaches = passed(reaches, i, s, j, place_of(xs[j], ys[j]));
     }
     reaches
 }

@@ -5,7 +5,7 @@ use crate::units::Units;
 ghost use mathlib.Core.Path.{_≡_};
 ghost use Prim.Native.Nat.{_≤_};
 ghost use Rattle.placing.specs.rules.Units.{mostSites};
-ghost use Rattle.placing.specs.code.Sites.{HasPlace, CoordinatesOf, placeAt};
+ghost use Rattle.placing.specs.code.Sites.{CoordinatesOf, placeOf};
 
 // The places of a list.
 pub(crate) struct Coordinates {
@@ -27,13 +27,12 @@ pub(crate) fn coordinates_of(sites: [Place; Limits::SITES], n: usize) -> Coordin
     Coordinates { xs, ys }
 }
 
-// The place of site `i`.
-pub(crate) fn place_at(xs: &[u32; Limits::SITES], ys: &[u32; Limits::SITES], i: usize) -> Place
-    requires { ⌜ HasPlace (now xs) (now ys) i ⌝ }
-    ensures { λ r. ⌜ r ≡ placeAt (now (xs .entry)) (now (ys .entry)) i ⌝ }
+// The place at two coordinates.
+pub(crate) fn place_of(x: u32, y: u32) -> Place
+    ensures { λ r. ⌜ r ≡ placeOf x y ⌝ }
 {
     Place {
-        x: Units(xs[i]),
-        y: Units(ys[i]),
+        x: Units(x),
+        y: Units(y),
     }
 }

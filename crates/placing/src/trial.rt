@@ -3,7 +3,7 @@
 // of the lent table marks a site whose decision has been carried out. Inside a trial the arrays are lent, since handing them
 // on by value costs more than all the tests.
 use crate::geometry::meet;
-use crate::sites::place_at;
+use crate::sites::place_of;
 use crate::units::HalfUnits;
 use crate::units::Limits;
 ghost use mathlib.Core.Path.{_≡_};
@@ -102,8 +102,8 @@ fn carry_to(
 {
     let e = 4 * j + (c as usize - 1);
     if ways[e] == 1 {
-        let s = place_at(xs, ys, k);
-        let t = place_at(xs, ys, j);
+        let s = place_of(xs[k], ys[k]);
+        let t = place_of(xs[j], ys[j]);
         if meet(side, s, c, t, c) {
             return close_corner(ways, decided, j, c);
         }

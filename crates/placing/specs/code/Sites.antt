@@ -10,9 +10,13 @@ use Rattle.placing.specs.declared.units.HalfUnits.{HalfUnits}
 use Rattle.placing.specs.declared.units.Place.{Place}
 use Rattle.placing.specs.rules.Units.{mostSites, greatestCoordinate, freeSide, nowhere, siteAt, OnPlan}
 
+-- The place at two coordinates.
+abbrev pub placeOf : ℕ → ℕ → Place
+placeOf x y = record { x = record { 0 = x }; y = record { 0 = y } }
+
 -- The place of site number i.
 abbrev pub placeAt : List ℕ → List ℕ → ℕ → Place
-placeAt xs ys i = record { x = record { 0 = getD xs i 0 }; y = record { 0 = getD ys i 0 } }
+placeAt xs ys i = placeOf (getD xs i 0) (getD ys i 0)
 
 -- The list of what f gives for 0 up to n.
 pub listed : {A : Type 0} → (ℕ → A) → ℕ → List A

@@ -14,8 +14,20 @@ Inv-loop xs ys n i s reaches₀ j₀ reaches j = (j ≤ n) × SiteAmong (sitesOf
 abbrev μ-loop : tie.MeasureT-loop
 μ-loop xs ys n i s reaches₀ j₀ reaches j = n - j
 
-place-at-requires : tie.Need-place-at-requires Inv-loop μ-loop
-place-at-requires c κs = held-place (c .pre .0) (c .pre .1)
+mul-place-of : tie.Need-mul-place-of Inv-loop μ-loop
+mul-place-of c = omega arith
+
+element-copy-out-place-of : tie.Need-element-copy-out-place-of Inv-loop μ-loop
+element-copy-out-place-of c = omega arith
+
+mul-place-of-2 : tie.Need-mul-place-of-2 Inv-loop μ-loop
+mul-place-of-2 c = omega arith
+
+element-copy-out-place-of-2 : tie.Need-element-copy-out-place-of-2 Inv-loop μ-loop
+element-copy-out-place-of-2 c = omega arith
+
+place-of-requires : tie.Need-place-of-requires Inv-loop μ-loop
+place-of-requires c κs = search needs
 
 doubled-requires : tie.Need-doubled-requires Inv-loop μ-loop
 doubled-requires c κs = search needs
@@ -23,16 +35,29 @@ doubled-requires c κs = search needs
 loop-holds : tie.Need-loop-holds Inv-loop μ-loop
 loop-holds c = (omega arith, site-none (c .doubled .result) (c .doubled .ensures))
 
-place-at-requires-2 : tie.Need-place-at-requires-2 Inv-loop μ-loop
-place-at-requires-2 c κs = held-place (c .before .before .before .before .pre .0) (c .loop-test .taken)
+mul-place-of-3 : tie.Need-mul-place-of-3 Inv-loop μ-loop
+mul-place-of-3 c = omega arith
+
+element-copy-out-place-of-3 : tie.Need-element-copy-out-place-of-3 Inv-loop μ-loop
+element-copy-out-place-of-3 c = omega arith
+
+mul-place-of-4 : tie.Need-mul-place-of-4 Inv-loop μ-loop
+mul-place-of-4 c = omega arith
+
+element-copy-out-place-of-4 : tie.Need-element-copy-out-place-of-4 Inv-loop μ-loop
+element-copy-out-place-of-4 c = omega arith
+
+place-of-requires-2 : tie.Need-place-of-requires-2 Inv-loop μ-loop
+place-of-requires-2 c κs = search needs
 
 passed-requires : tie.Need-passed-requires Inv-loop μ-loop
 passed-requires c κs =
-    let turn = c .before in
+    let turn = c .before .before .before in
     let place = turn .before .before .before in
-    let held = place .before .pre .0 in (
-      rw (place .place-at .ensures) (held-place held (place .before .pre .1) .on-plan),
-      rw (c .place-at2 .ensures) (held-place held (turn .loop-test .taken) .on-plan),
+    let start = place .before .before .before in
+    let held = start .pre .0 in (
+      rw (place .place-of .ensures) (held-place held (start .pre .1) .on-plan),
+      rw (c .place-of2 .ensures) (held-place held (turn .loop-test .taken) .on-plan),
     )
 
 add-j : tie.Need-add-j Inv-loop μ-loop
@@ -43,18 +68,18 @@ loop-less c = omega arith
 
 loop-again : tie.Need-loop-again Inv-loop μ-loop
 loop-again c =
-    let turn = c .before .before in
+    let turn = c .before .before .before .before in
     let place = turn .before .before .before in
-    let start = place .before in (
+    let start = place .before .before .before in (
       omega arith,
       site-more (start .args .xs .now) (start .args .ys .now) (start .pre .1) (turn .loop-test .taken) (turn .before .loop .inv .1)
-          (rw (← place .place-at .ensures, ← c .before .place-at2 .ensures) (c .passed .ensures)),
+          (rw (← place .place-of .ensures, ← c .before .place-of2 .ensures) (c .passed .ensures)),
     )
 
 returns : tie.Need-returns Inv-loop μ-loop
 returns c =
     let at-loop = c .before in
-    let asked = at-loop .before .before .before .args in
+    let asked = at-loop .before .before .before .before .before .args in
     site-all (omega (arith, length-sites (asked .n) (asked .xs .now) (asked .ys .now))) (at-loop .loop .inv .1)
 
 pub reaches-of-spec : {M : Type 1} → statement M
@@ -63,10 +88,18 @@ reaches-of-spec =
     (tie.spec
     Inv-loop
     μ-loop
-    place-at-requires
+    mul-place-of
+    element-copy-out-place-of
+    mul-place-of-2
+    element-copy-out-place-of-2
+    place-of-requires
     doubled-requires
     loop-holds
-    place-at-requires-2
+    mul-place-of-3
+    element-copy-out-place-of-3
+    mul-place-of-4
+    element-copy-out-place-of-4
+    place-of-requires-2
     passed-requires
     add-j
     loop-less

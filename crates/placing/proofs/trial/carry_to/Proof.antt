@@ -17,17 +17,41 @@ add-e c = search needs
 element-copy-out-if1 : tie.Need-element-copy-out-if1
 element-copy-out-if1 c = search needs
 
-place-at-requires : tie.Need-place-at-requires
-place-at-requires c κs = search needs
+mul-place-of : tie.Need-mul-place-of
+mul-place-of c = search needs
 
-place-at-requires-2 : tie.Need-place-at-requires-2
-place-at-requires-2 c κs = search needs
+element-copy-out-place-of : tie.Need-element-copy-out-place-of
+element-copy-out-place-of c = search needs
+
+mul-place-of-2 : tie.Need-mul-place-of-2
+mul-place-of-2 c = search needs
+
+element-copy-out-place-of-2 : tie.Need-element-copy-out-place-of-2
+element-copy-out-place-of-2 c = search needs
+
+place-of-requires : tie.Need-place-of-requires
+place-of-requires c κs = search needs
+
+mul-place-of-3 : tie.Need-mul-place-of-3
+mul-place-of-3 c = search needs
+
+element-copy-out-place-of-3 : tie.Need-element-copy-out-place-of-3
+element-copy-out-place-of-3 c = search needs
+
+mul-place-of-4 : tie.Need-mul-place-of-4
+mul-place-of-4 c = search needs
+
+element-copy-out-place-of-4 : tie.Need-element-copy-out-place-of-4
+element-copy-out-place-of-4 c = search needs
+
+place-of-requires-2 : tie.Need-place-of-requires-2
+place-of-requires-2 c κs = search needs
 
 meet-requires : tie.Need-meet-requires
 meet-requires c κs =
-    let may = c .before .before .before .before .pre in (
-      rw (c .before .place-at .ensures) (may .from .on-plan),
-      rw (c .place-at2 .ensures) (may .to .on-plan),
+    let may = c .before .before .before .before .before .before .before .before .pre in (
+      rw (c .before .before .before .place-of .ensures) (may .from .on-plan),
+      rw (c .place-of2 .ensures) (may .to .on-plan),
       may .corner,
       may .corner,
       may .judged,
@@ -39,17 +63,17 @@ close-corner-requires c κs = search needs
 returns : tie.Need-returns
 returns c =
     let met = c .before .before .before .before in
-    let start = met .before .before .before .before .before in
-    carried-meeting _ _ _ _ _ _ _ _ (start .pre) _ _ _ (met .before .before .before .if1 .taken)
-    (rw (met .before .before .place-at .ensures, met .before .place-at2 .ensures) at (met .meet .ensures .yes-holds (c .before .before .before .if2 .taken)))
+    let start = met .before .before .before .before .before .before .before .before .before in
+    carried-meeting _ _ _ _ _ _ _ _ (start .pre) _ _ _ (met .before .before .before .before .before .before .before .if1 .taken)
+    (rw (met .before .before .before .before .place-of .ensures, met .before .place-of2 .ensures) at (met .meet .ensures .yes-holds (c .before .before .before .if2 .taken)))
     (c .close-corner .ensures)
 
 returns-2 : tie.Need-returns-2
 returns-2 c =
     let met = c .before in
-    let start = met .before .before .before .before .before in
+    let start = met .before .before .before .before .before .before .before .before .before in
     carried-apart _ _ _ _ _ _ _ _ (start .pre)
-    (λ is-open. rw (met .before .before .place-at .ensures, met .before .place-at2 .ensures) at (met .meet .ensures .no-fails (c .if2 .left)))
+    (λ is-open. rw (met .before .before .before .before .place-of .ensures, met .before .place-of2 .ensures) at (met .meet .ensures .no-fails (c .if2 .left)))
 
 returns-3 : tie.Need-returns-3
 returns-3 c =
@@ -63,8 +87,16 @@ carry-to-spec =
     sub-e
     add-e
     element-copy-out-if1
-    place-at-requires
-    place-at-requires-2
+    mul-place-of
+    element-copy-out-place-of
+    mul-place-of-2
+    element-copy-out-place-of-2
+    place-of-requires
+    mul-place-of-3
+    element-copy-out-place-of-3
+    mul-place-of-4
+    element-copy-out-place-of-4
+    place-of-requires-2
     meet-requires
     close-corner-requires
     returns

@@ -1,46 +1,49 @@
 -- `first_failed` meets its contract, test by test. Assumes nothing.
+use mathlib.Core.Path.{sym}
+use Rattle.plan.specs.code.Entering.{firstFailed}
 use Rattle.plan.proofs.plan.first_failed.Statement.{statement}
 use Rattle.plan.proofs.plan.first_failed.Tie as tie
-use Rattle.plan.proofs.plan.first_failed.Reads as reads
-use Rattle.plan.proofs.plan.first_failed.Lts as lts
 
--- src/plan.rt:121:9
 returns : tie.Need-returns
-returns c = rw (c .if1 .taken)
+returns c =
+    let args = c .before .args in
+    sym (λ k. firstFailed (c .if1 .taken k) (args .outside) (args .full) (args .named) (args .placed))
 
--- src/plan.rt:124:9
 returns-2 : tie.Need-returns-2
-returns-2 c = rw (c .before .if1 .left, c .if2 .taken)
+returns-2 c =
+    let args = c .before .before .args in
+    sym (λ k. firstFailed (c .before .if1 .left k) (c .if2 .taken k) (args .full) (args .named) (args .placed))
 
--- src/plan.rt:127:9
 returns-3 : tie.Need-returns-3
-returns-3 c = rw (c .before .before .if1 .left, c .before .if2 .left, c .if3 .taken)
+returns-3 c =
+    let second = c .before in
+    let first = second .before in
+    let args = first .before .args in
+    sym (λ k. firstFailed (first .if1 .left k) (second .if2 .left k) (c .if3 .taken k) (args .named) (args .placed))
 
--- src/plan.rt:130:9
 returns-4 : tie.Need-returns-4
-returns-4 c = rw (c .before .before .before .if1 .left, c .before .before .if2 .left, c .before .if3 .left, c .if4 .taken)
+returns-4 c =
+    let third = c .before in
+    let second = third .before in
+    let first = second .before in
+    let args = first .before .args in
+    sym (λ k. firstFailed (first .if1 .left k) (second .if2 .left k) (third .if3 .left k) (c .if4 .taken k) (args .placed))
 
--- src/plan.rt:133:9
 returns-5 : tie.Need-returns-5
 returns-5 c =
-    rw (
-      c .before .before .before .before .if1 .left,
-      c .before .before .before .if2 .left,
-      c .before .before .if3 .left,
-      c .before .if4 .left,
-      c .if5 .taken,
-    )
+    let fourth = c .before in
+    let third = fourth .before in
+    let second = third .before in
+    let first = second .before in
+    sym (λ k. firstFailed (first .if1 .left k) (second .if2 .left k) (third .if3 .left k) (fourth .if4 .left k) (c .if5 .taken k))
 
--- src/plan.rt:117:1
 returns-6 : tie.Need-returns-6
 returns-6 c =
-    rw (
-      c .before .before .before .before .if1 .left,
-      c .before .before .before .if2 .left,
-      c .before .before .if3 .left,
-      c .before .if4 .left,
-      c .if5 .left,
-    )
+    let fourth = c .before in
+    let third = fourth .before in
+    let second = third .before in
+    let first = second .before in
+    sym (λ k. firstFailed (first .if1 .left k) (second .if2 .left k) (third .if3 .left k) (fourth .if4 .left k) (c .if5 .left k))
 
 pub first-failed-spec : {M : Type 1} → statement M
 first-failed-spec = tie.close (tie.spec returns returns-2 returns-3 returns-4 returns-5 returns-6)

@@ -6,6 +6,7 @@ use mathlib.Core.Path.{_≡_}
 use Prim.Native.Nat.{ℕ, zero, suc, _+_, _-_, _<_, _≤_}
 use lib.IntN.{ℤ, pos, negsuc}
 use lib.ListN.{length}
+use Rattle.plan.specs.theorems.Longer.{longestText}
 use Rattle.place.specs.declared.Reading.{Reading}
 use Rattle.place.specs.declared.Step.{Step}
 use Rattle.place.specs.declared.Step.the-variants.{Got, Ended, Failed}
@@ -55,7 +56,9 @@ Sound (Got n) = Unit {0}
 Sound Ended = Unit {0}
 Sound Failed = ⊥
 
--- A list that may be answered: its bytes lie within the room, and no read failed.
+-- A list that may be answered: its bytes lie within the room, the room holds "at most 5,061 bytes; these already decide every
+-- longer text", and no read failed.
 pub record Whole (r : Reading) (room : List ℕ) : Type 0 where
   pub within : r .at ≤ length room
+  pub room-for-all : length room ≡ longestText
   pub sound : Sound (r .last)

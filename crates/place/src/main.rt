@@ -9,6 +9,7 @@ ghost use Prim.Native.Nat.{_≤_, _<_};
 ghost use mathlib.Core.Path.{_≡_};
 ghost use lib.ListN.{length};
 ghost use Rattle.place.specs.Input.{Finished, Onward, Whole, bytesOf, roomLeft, stepOf};
+ghost use Rattle.plan.specs.theorems.Longer.{longestText};
 ghost use Rattle.plan.specs.code.Within.{WrittenWithin};
 
 // What one read did: it brought so many bytes, or found the end of the input, or failed.
@@ -112,7 +113,7 @@ fn answer_list(reading: Reading, text: &[u8])
 
 // Answers what was read. A list cut short by a failed read yields no sheet.
 fn answer(reading: Reading, text: &[u8])
-    requires { ⌜ Finished reading (now text) ⌝ }
+    requires { ⌜ Finished reading (now text) × (length (now text) ≡ longestText) ⌝ }
 {
     let last = reading.last;
     if let Step::Failed = last {

@@ -1,24 +1,21 @@
--- The three demands of document 01, in its order: the whole claim on what a list gives. The contracts of write and output cite
--- these names. Each call by itself states its answer, and the number of it, as an equation with a definition of Calls:
+-- The three demands of document 01, in its order: the whole claim on what a list gives. The contract of output cites all of it,
+-- that of write demand 3 and the list of demand 2. Each call by itself states its answer, and the number of it, as an equation with a definition of Calls:
 -- enterNumber, readNumber, placeNumber, askSideNumber, askCornerNumber, writeNumber.
 -- Assumes nothing.
 use mathlib.Core.Path.{_≡_}
 use mathlib.Core.List.{List, []}
-use mathlib.Core.Option.{some, none}
+use mathlib.Core.Option.{some}
 use Prim.Native.Nat.{ℕ, _*_, _≤_, _<_}
 use lib.ListN.{length, take}
-use Rattle.placing.specs.declared.units.HalfUnits.{HalfUnits}
-use Rattle.placing.specs.declared.units.Place.{Place}
-use Rattle.placing.specs.declared.units.Side.the-variants.{Number, Free}
 use Rattle.placing.specs.rules.Choice.{Corners, MeetingPair}
 use Rattle.placing.specs.rules.Answer.{Answer, answerOf, IsAnswer}
 use Rattle.plan.specs.declared.plan.Written.{Written}
 use Rattle.plan.specs.declared.plan.Written.the-variants.{Bytes, NotWritten}
 use Rattle.plan.specs.rules.Site.{Site, placesOf}
 use Rattle.plan.specs.rules.Enter.{accepted}
-use Rattle.plan.specs.rules.List.{readList}
+use Rattle.plan.specs.rules.List.{readList, listText}
 use Rattle.plan.specs.rules.Sheet.{sheetWith, sheetOf}
-use Rattle.plan.specs.rules.Calls.{readNumber}
+use Rattle.plan.specs.rules.Calls.{readNumber, sideNumber}
 use Rattle.plan.specs.rules.ReadOff.{numberOn, spotsOn, carried}
 use Rattle.plan.specs.rules.Output.{numberLine, outputOf}
 
@@ -56,18 +53,19 @@ pub record NoRival (sheet : List ℕ) : Type 0 where
       → (corners : List ℕ) → Corners (length (spotsOn sheet)) corners → MeetingPair p q (spotsOn sheet) corners
 
 -- It is about the sites: "Its number is the side it prints, its spots are the x and y on the site lines under it". On a sheet for
--- these places the number is the side of their answer, exactly when that is a number, and the spots are the places.
-pub record ReadsOff (places : List Place) (sheet : List ℕ) : Type 0 where
-  pub number : (side : HalfUnits) → answerOf places .side ≡ Number side → numberOn sheet ≡ some (side .0)
-  pub no-number : answerOf places .side ≡ Free → numberOn sheet ≡ none
-  pub spots : spotsOn sheet ≡ places
+-- these sites the number is the side of their answer, exactly when that is a number, the spots are the places, and the list that
+-- the sheet carries is theirs.
+pub record ReadsOff (sites : List Site) (sheet : List ℕ) : Type 0 where
+  pub number : numberOn sheet ≡ sideNumber (answerOf (placesOf sites) .side)
+  pub spots : spotsOn sheet ≡ placesOf sites
+  pub list : carried sheet ≡ listText sites
 
 -- The three of the output for a text.
 pub record Demanded (text output : List ℕ) : Type 0 where
   pub answered : Answered text output
   pub right : (sites : List Site) → Accepts text sites → Right text sites output
   pub no-rival : (sites : List Site) → Accepts text sites → NoRival output
-  pub reads-off : (sites : List Site) → Accepts text sites → ReadsOff (placesOf sites) output
+  pub reads-off : (sites : List Site) → Accepts text sites → ReadsOff sites output
 
 -- ---- of "what an accepted writing leaves in the buffer, from its first byte up to the length it gives"
 
@@ -80,9 +78,9 @@ InBuffer holds (NotWritten why) buffer = Unit {0}
 abbrev pub NoRivalIn : Written → List ℕ → Type 0
 NoRivalIn written buffer = InBuffer NoRival written buffer
 
--- with what its number and spots are,
-abbrev pub ReadsOffIn : List Place → Written → List ℕ → Type 0
-ReadsOffIn places written buffer = InBuffer (ReadsOff places) written buffer
+-- with what its number, spots and list are,
+abbrev pub ReadsOffIn : List Site → Written → List ℕ → Type 0
+ReadsOffIn sites written buffer = InBuffer (ReadsOff sites) written buffer
 
 -- and all three of the output written for a text.
 abbrev pub SheetFor : List ℕ → Written → List ℕ → Type 0

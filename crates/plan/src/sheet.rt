@@ -18,7 +18,6 @@ ghost use Rattle.placing.specs.rules.Units.{OnPlan};
 ghost use Rattle.placing.specs.rules.Corner.{Corner};
 ghost use Rattle.plan.specs.rules.Sheet.{sheetOf, longestSideLine, longestSiteLine, longestSheet};
 ghost use Rattle.plan.specs.rules.Plan.{sitesIn, Valid};
-ghost use Rattle.plan.specs.rules.Site.{placesOf};
 ghost use Rattle.plan.specs.rules.Calls.{written, bufferAfter, writtenNumber, writtenLength, writeNumber, carriedAt};
 ghost use Rattle.plan.specs.code.Taken.{siteOf};
 ghost use Rattle.plan.specs.code.Put.{Put};
@@ -84,7 +83,7 @@ pub fn write(plan: Plan, buffer: &mut [u8]) -> Written
     ensures answer { λ r. ⌜ r ≡ written plan (now (buffer .entry)) ⌝ }
     ensures buffer { λ r. ⌜ now (buffer .exit) ≡ bufferAfter plan (now (buffer .entry)) ⌝ }
     ensures rivals { λ r. ⌜ NoRivalIn r (now (buffer .exit)) ⌝ }
-    ensures reads { λ r. ⌜ ReadsOffIn (placesOf (sitesIn plan)) r (now (buffer .exit)) ⌝ }
+    ensures reads { λ r. ⌜ ReadsOffIn (sitesIn plan) r (now (buffer .exit)) ⌝ }
     ensures number { λ r. ⌜ writtenNumber r ≡ writeNumber plan (now (buffer .entry)) ⌝ }
     ensures value { λ r. ⌜ writtenLength r ≡ carriedAt (writeNumber plan (now (buffer .entry))) (length (sheetOf (sitesIn plan))) ⌝ }
 {

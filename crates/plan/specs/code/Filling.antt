@@ -18,7 +18,7 @@ use Rattle.plan.specs.declared.refusal.Outcome.{Outcome}
 use Rattle.plan.specs.declared.refusal.Outcome.the-variants.{Done, Refused}
 use Rattle.plan.specs.declared.refusal.Refusal.{Refusal}
 use Rattle.plan.specs.declared.refusal.Refusal.the-variants.{NoSites, ShortBuffer}
-use Rattle.plan.specs.rules.Site.{Site, placesOf, Listed}
+use Rattle.plan.specs.rules.Site.{Site, Listed}
 use Rattle.plan.specs.rules.Enter.{Sites, accepted, refused}
 use Rattle.plan.specs.rules.List.{readList, read-listed}
 use Rattle.plan.specs.rules.Sheet.{sheetOf}
@@ -105,9 +105,9 @@ filled-no-rival {plan} valid filled =
 
 -- and is about the places of the plan.
 pub filled-reads : {plan : Plan} {buffer after : List ℕ} {n : ℕ} → Valid plan
-    → Filled (sheetOf (sitesIn plan)) buffer (Bytes n) after → ReadsOff (placesOf (sitesIn plan)) (take n after)
+    → Filled (sheetOf (sitesIn plan)) buffer (Bytes n) after → ReadsOff (sitesIn plan) (take n after)
 filled-reads {plan} valid filled =
-    subst (ReadsOff (placesOf (sitesIn plan))) (sym (filled-taken filled refl)) (sheet-reads (sitesIn plan) (valid-listed valid))
+    subst (ReadsOff (sitesIn plan)) (sym (filled-taken filled refl)) (sheet-reads (sitesIn plan) (valid-listed valid))
 
 -- ---- the output
 

@@ -88,7 +88,7 @@ holding-place {plan} {sites} holding place =
 
 -- ---- one site more
 
--- The first empty slot takes what is to be held of the new site.
+-- The first empty slot takes what is to be held of one site more.
 held-more : {A : Type 0} (f : Site → A) (d : A) (sites : List Site) (site : Site) → length sites < mostSites
     → set (map f sites ++ replicate (mostSites - length sites) d) (length sites) (f site)
     ≡ map f (sites ++ (site ∷ [])) ++ replicate (mostSites - length (sites ++ (site ∷ []))) d

@@ -83,7 +83,7 @@ pub fresh-appended : (sites : List Site) (site : Site) → Fresh sites site → 
 unfolding appended
 fresh-appended sites site fresh = rw (lt-leb mostSites (length sites) (fresh .room), fresh .name-free, fresh .place-free)
 
--- The sites afterwards: those before and the new one.
+-- The sites afterwards: those before, then this one.
 pub appended-more : (sites : List Site) (site : Site) (more : List Site) → appended sites site ≡ accepted more → more ≡ sites ++ (site ∷ [])
 appended-more sites site more e =
     let same : accepted (sites ++ (site ∷ [])) ≡ accepted more = sym (fresh-appended sites site (appended-fresh sites site more e)) ∙ e in cc

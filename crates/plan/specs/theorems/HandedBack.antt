@@ -18,7 +18,7 @@ use Rattle.plan.specs.rules.Name.{isName}
 use Rattle.plan.specs.rules.Site.{Site, Listed, placeAt}
 use Rattle.plan.specs.rules.Enter.{appended, Sites, accepted, refused, accepted-if, appended-more, entered, entered-listed, listed-none}
 use Rattle.plan.specs.rules.List.{readList, readLines, listText, read-listed, list-read}
-use Rattle.plan.specs.rules.Plan.{unplaced, sitesIn, sites-unplaced, Valid, is-unplaced, is-placed}
+use Rattle.plan.specs.rules.Plan.{unplaced, sitesIn, sites-unplaced, sites-placed, Valid, is-unplaced, is-placed}
 use Rattle.plan.specs.rules.Calls.{started, plannedOr, enteredIn, readFrom, placeWhere, placedIn, counted}
 use Rattle.plan.specs.code.PlanLaws.{Holding, valid-holding}
 use Rattle.plan.specs.code.CallLaws.{unplaced-placed}
@@ -93,7 +93,25 @@ handed-valid (by-enter name x y before) = enter-valid name x y (handed-valid bef
 handed-valid (by-read text) = read-valid text
 handed-valid (by-place table before) = place-valid table (handed-valid before)
 
--- ---- the count
+-- ---- the count is the number of sites entered
+
+-- A start has none.
+pub started-counted : counted started ≡ 0
+started-counted = ap length (sites-unplaced [] listed-none)
+
+-- A list that is accepted gives as many as it has.
+pub read-counted : (text : List ℕ) (sites : List Site) → readList text ≡ accepted sites → counted (readFrom text .plan) ≡ length sites
+read-counted text sites is =
+    ap (λ (read : Sites). counted (plannedOr started read .plan)) is ∙ ap length (sites-unplaced sites (read-listed text sites is))
+
+-- Placing keeps them.
+pub placed-counted : (plan : Plan) (table : List ℕ) → Valid plan → counted (placedIn plan table .plan) ≡ counted plan
+placed-counted plan table valid = by-tests (eqb (plan .count) 0) (ltb (length table) (plan .count * plan .count))
+  where
+    by-tests : (none short : Bool) → counted (placeWhere none short plan .plan) ≡ counted plan
+    by-tests true short = refl
+    by-tests false true = refl
+    by-tests false false = ap length (sites-placed (sitesIn plan) (valid-holding valid .listed))
 
 -- Sites that a site was entered into are one more.
 entered-more : (sites : List Site) (name : List ℕ) (x y : ℕ) (more : List Site) → entered sites name x y ≡ accepted more

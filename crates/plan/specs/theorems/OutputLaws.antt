@@ -15,7 +15,7 @@ use Rattle.plan.specs.rules.Calls.{sitesNumber}
 use Rattle.plan.specs.rules.Output.{numberLine, refusalLine, outputFor, outputOf, output-sheet}
 use Rattle.plan.specs.code.Refusing.{refusal-short}
 use Rattle.plan.specs.Demands.{Accepts, Answered, Right, ReadsOff, Demanded}
-use Rattle.plan.specs.theorems.SheetLaws.{text-again, output-again, no-rival, number-on-sheet, no-number-on-sheet, spots-on-sheet}
+use Rattle.plan.specs.theorems.SheetLaws.{sheet-carries, text-again, output-again, no-rival, number-read, spots-on-sheet}
 
 -- Demand 1: the output is the sheet, or the line with the number.
 output-answered : (text : List ℕ) → Answered text (outputOf text)
@@ -44,14 +44,10 @@ output-right text sites accepts =
       again = output-again text sites (accepts .read) (accepts .some-sites);
     }
 
--- The number and the spots on a sheet are those of its sites.
-pub sheet-reads : (sites : List Site) → Listed sites → ReadsOff (placesOf sites) (sheetOf sites)
+-- The number, the spots and the list on a sheet are those of its sites.
+pub sheet-reads : (sites : List Site) → Listed sites → ReadsOff sites (sheetOf sites)
 sheet-reads sites listed =
-    record {
-      number = λ side is. number-on-sheet sites side listed is;
-      no-number = λ is. no-number-on-sheet sites listed is;
-      spots = spots-on-sheet sites listed;
-    }
+    record { number = number-read sites listed; spots = spots-on-sheet sites listed; list = sheet-carries sites listed }
 
 -- All three.
 pub output-demanded : (text : List ℕ) → Demanded text (outputOf text)

@@ -1,6 +1,6 @@
 -- The three demands of document 01, in its order: the whole claim on what a list gives. The contract of output cites all of it,
--- that of write demand 3 and the list of demand 2. Each call by itself states its answer, and the number of it, as an equation with a definition of Calls:
--- enterNumber, readNumber, placeNumber, askSideNumber, askCornerNumber, writeNumber.
+-- that of write demand 3 and the list of demand 2. Each call by itself states its answer, and the number of it, as an equation
+-- with a definition of Calls: enterNumber, readNumber, placeNumber, askSideNumber, askCornerNumber, writeNumber.
 -- Assumes nothing.
 use mathlib.Core.Path.{_≡_}
 use mathlib.Core.List.{List, []}

@@ -5,7 +5,6 @@ use crate::corner::directions_of;
 use crate::units::HalfUnits;
 use crate::units::Place;
 use crate::units::Units;
-ghost use Prim.Native.Nat.{_≤_};
 ghost use Rattle.placing.specs.rules.Units.{OnAxis, OnPlan, Judged};
 ghost use Rattle.placing.specs.rules.Decides.{Decides};
 ghost use Rattle.placing.specs.rules.Corner.{Corner};

@@ -29,19 +29,6 @@ choice {Q} n has = (λ i. pick i (decLt i n), λ i h. picked i h (decLt i n))
     picked i h (no k) = absurd (k h)
 
 module _ {P : Problem} {op : ℕ → ℕ → ℕ} {dec f : ℕ → ℕ} (closed : Closed P op dec) (solution : Solution P f) where
-  -- A solution that agrees with the decisions has only open corners: a closed one would conflict with a decided one.
-  pub closed-follows : ((i : ℕ) → i < P .n → dec i ≢ 0 → f i ≡ dec i) → Follows P op f
-  closed-follows agrees = record { follows = λ j h. follow j h (ℕ-discrete (dec j) 0) (ℕ-discrete (op j (f j)) 1) }
-    where
-      refute : (j : ℕ) → j < P .n → ClosedBy P dec j (f j) → ⊥
-      refute j h c =
-          solution .apart (c .by) j (c .listed) h (c .different) (rw (agrees (c .by) (c .listed) (c .decided)) (c .conflict))
-
-      follow : (j : ℕ) → j < P .n → Dec (dec j ≡ 0) → Dec (op j (f j) ≡ 1) → op j (f j) ≡ 1
-      follow j h (yes u) (yes o) = o
-      follow j h (yes u) (no o) = absurd (refute j h (closed .closed-by j (f j) h u (solution .candidate j h) o))
-      follow j h (no d) o = rw (agrees j h d) (closed .decided-open j h d)
-
   -- A closed corner of a solution is not dead: it conflicts with a decided corner.
   closed-not-dead : (i : ℕ) → ClosedBy P dec i (f i) → Dead (P .n) (P .Candidate) (P .Conflict) i (f i) → ⊥
   closed-not-dead i c dead =

@@ -186,15 +186,6 @@ good-decides h ps cs =
     (both-decide (all-decides _ (length ps) (λ i. not-decides (crowded-decides h ps i (cornerAt cs i))))
     (all-decides _ (length ps) (λ i. all-decides _ (length ps) (λ j. not-decides (pair-decides h 1 ps cs i j))))))
 
--- The rules decided.
-pub overlap? : (p q : ℕ) (d : Direction) (a : ℕ) (e : Direction) (b : ℕ) → Dec (Overlap p q d a e b)
-overlap? p q d a e b = decided (overlap-decides p q d a e b)
-
-pub meet? : (p q : ℕ) (s : Place) (c : ℕ) (t : Place) (e : ℕ) → Dec (Meet p q s c t e)
-meet? p q s c t e = decided (meet-decides p q s c t e)
-
-pub crowded? : (h : ℕ) (ps : List Place) (i c : ℕ) → Dec (Crowded h ps i c)
-crowded? h ps i c = decided (crowded-decides h ps i c)
-
+-- So a good choice is decided.
 pub good? : (h : ℕ) (ps : List Place) (cs : List ℕ) → Dec (Good h ps cs)
 good? h ps cs = decided (good-decides h ps cs)

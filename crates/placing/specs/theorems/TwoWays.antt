@@ -19,7 +19,7 @@ use Rattle.placing.specs.rules.Corner.{Corner, alongX, alongY, opposite}
 use Rattle.placing.specs.rules.Meet.{Overlap, Meet}
 use Rattle.placing.specs.rules.Crowd.{Ahead, Crowded}
 
--- T2. Where two labels overlap along an axis, the other place lies ahead of this one in this label's direction; or it lies
+-- Where two labels overlap along an axis, the other place lies ahead of this one in this label's direction; or it lies
 -- ahead in the opposite direction, and this place lies ahead of the other one in the other label's direction.
 pub overlap-ahead : (h : ℕ) (d e : Direction) (a b : ℕ) → Overlap h 1 d a e b
     → Ahead h d a b ⊎ (Ahead h (opposite d) a b × Ahead h e b a)
@@ -181,7 +181,7 @@ module _ (h : ℕ) (ps : List Place) where
   crowded-toward i d e j listed differ x y =
       crowded-by i (cornerToward d e) j listed differ (rw (toward-x d e) x) (rw (toward-y d e) y)
 
-  -- T3. Where a corner and both corners beside it are uncrowded, its label meets that of no uncrowded corner of another site.
+  -- Where a corner and both corners beside it are uncrowded, its label meets that of no uncrowded corner of another site.
   pub two-ways : {i j c e : ℕ} → i < length ps → j < length ps → j ≢ i → (Crowded h ps i c → ⊥)
       → (Crowded h ps i (acrossX c) → ⊥) → (Crowded h ps i (acrossY c) → ⊥) → (Crowded h ps j e → ⊥)
       → Meet h 1 (siteAt ps i) c (siteAt ps j) e → ⊥

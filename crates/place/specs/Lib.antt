@@ -1,2 +1,4 @@
+-- Reading the input and writing the output of the placing program.
 pub mod Input
 pub mod InputLaws
+pub mod Reply

@@ -10,7 +10,7 @@ ghost use mathlib.Core.Path.{_≡_};
 ghost use lib.ListN.{length};
 ghost use Rattle.place.specs.Input.{Finished, Onward, Whole, bytesOf, roomLeft, stepOf};
 ghost use Rattle.plan.specs.theorems.Longer.{longestText};
-ghost use Rattle.plan.specs.code.Within.{WrittenWithin};
+ghost use Rattle.place.specs.Reply.{Replied};
 
 // What one read did: it brought so many bytes, or found the end of the input, or failed.
 enum Step {
@@ -92,7 +92,7 @@ fn read_input(text: &mut [u8]) -> Reading
 
 // Writes the output that a buffer holds.
 fn write_output(written: Written, buffer: &[u8])
-    requires { ⌜ WrittenWithin written (now buffer) ⌝ }
+    requires { ⌜ Replied written (now buffer) ⌝ }
 {
     if let Written::Bytes(n) = written {
         if !io::write_all(STDOUT_FILENO, &buffer[..n]) {

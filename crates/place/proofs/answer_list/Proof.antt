@@ -1,9 +1,11 @@
--- `place::answer_list` is safe: what `output` writes lies within the buffer.
+-- `place::answer_list` is safe, and has bytes to write for every list: no output is longer than the buffer.
 -- Assumes nothing.
-use lib.ListN.{take, replicate}
+use native.Mathlib.Omega.{arith}
+use Prim.Native.Nat.{ℕ}
+use lib.ListN.{replicate, length-replicate}
 use lib.Seq.{length-take-le}
 use mathlib.Core.Path.{sym}
-use Rattle.plan.specs.code.Within.{output-within}
+use Rattle.place.specs.Reply.{output-replied}
 use borrow.Author.Needs.{needs}
 use Rattle.plan.specs.rules.Sheet.{longestSheet}
 use Rattle.place.proofs.answer_list.Statement.{statement}
@@ -23,10 +25,9 @@ slice-aggregate-write-output c = search needs
 
 write-output-requires : tie.Need-write-output-requires
 write-output-requires c κs =
-    let start = c .before .before .before .before .before .before in
     let at-output = c .before .before .output in
-    output-within (take (start .args .reading .at) (start .args .text .now)) (replicate longestSheet 0)
-    (at-output .ensures .0) (at-output .ensures .1 .0)
+    output-replied _ (replicate longestSheet 0) (at-output .ensures .0) (at-output .ensures .1 .0)
+    (omega (arith, length-replicate {A = ℕ} longestSheet 0))
 
 returns : tie.Need-returns
 returns c = search needs

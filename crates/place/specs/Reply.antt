@@ -1,4 +1,4 @@
--- What the program writes: all of the output for a list, since no output is longer than the buffer that it lends.
+-- What the program writes: the output for the list read, whole, since no output is longer than the buffer that it lends.
 -- Assumes nothing.
 use mathlib.Core.Path.{_≡_, refl}
 use mathlib.Core.Bool.{Bool, true, false}
@@ -7,7 +7,8 @@ use Prim.Native.Nat.{ℕ, _≤_}
 use native.Mathlib.Omega.{arith}
 use borrow.Author.Tests.{ltb-true}
 use lib.Dec.{ltb}
-use lib.ListN.{length, drop, length-append}
+use lib.ListN.{length, take, drop, length-append}
+use lib.Seq.{take-append-seam}
 use Rattle.plan.specs.declared.plan.Written.{Written}
 use Rattle.plan.specs.declared.plan.Written.the-variants.{Bytes, NotWritten}
 use Rattle.plan.specs.rules.Calls.{filledWhere}
@@ -15,18 +16,26 @@ use Rattle.plan.specs.rules.Sheet.{longestSheet}
 use Rattle.plan.specs.rules.Output.{outputOf, outputWhere, outputWritten, outputAfter}
 use Rattle.plan.specs.theorems.OutputLaws.{output-longest}
 
--- There are bytes to write, and they lie within the buffer.
-abbrev pub Replied : Written → List ℕ → Type 0
-Replied (Bytes n) buffer = n ≤ length buffer
-Replied (NotWritten why) buffer = ⊥
+-- How many bytes were written.
+abbrev pub lengthOf : Written → ℕ
+lengthOf (Bytes n) = n
+lengthOf (NotWritten why) = 0
 
--- A buffer for the longest sheet gets the output for every text.
-pub output-replied : {written : Written} {after : List ℕ} (text buffer : List ℕ) → written ≡ outputWritten text buffer
-    → after ≡ outputAfter text buffer → longestSheet ≤ length buffer → Replied written after
-output-replied text buffer is-written is-after room =
-    rw (is-written, is-after) (by-test (ltb (length buffer) (length (outputOf text))) refl)
+-- The first n bytes of the buffer are the output for a list.
+pub record Replied (list : List ℕ) (n : ℕ) (buffer : List ℕ) : Type 0 where
+  pub within : n ≤ length buffer
+  pub output : take n buffer ≡ outputOf list
+
+-- A buffer for the longest sheet gets the output for every list.
+pub output-replied : {written : Written} {after : List ℕ} (list buffer : List ℕ) → written ≡ outputWritten list buffer
+    → after ≡ outputAfter list buffer → longestSheet ≤ length buffer → Replied list (lengthOf written) after
+output-replied list buffer is-written is-after room =
+    rw (is-written, is-after) (by-test (ltb (length buffer) (length (outputOf list))) refl)
   where
-    by-test : (short : Bool) → ltb (length buffer) (length (outputOf text)) ≡ short
-        → Replied (outputWhere short (outputOf text)) (filledWhere (outputWhere short (outputOf text)) (outputOf text) buffer)
-    by-test true is = absurd (omega (arith, ltb-true (length buffer) (length (outputOf text)) is, output-longest text))
-    by-test false is = omega (arith, length-append (outputOf text) (drop (length (outputOf text)) buffer))
+    by-test : (short : Bool) → ltb (length buffer) (length (outputOf list)) ≡ short
+        → Replied list (lengthOf (outputWhere short (outputOf list)))
+        (filledWhere (outputWhere short (outputOf list)) (outputOf list) buffer)
+    by-test true is = absurd (omega (arith, ltb-true (length buffer) (length (outputOf list)) is, output-longest list))
+    by-test false is =
+        let rest = drop (length (outputOf list)) buffer in
+        record { within = omega (arith, length-append (outputOf list) rest); output = take-append-seam (outputOf list) rest }

@@ -7,10 +7,11 @@ use plan::output::output;
 use plan::plan::Written;
 ghost use Prim.Native.Nat.{_≤_, _<_};
 ghost use mathlib.Core.Path.{_≡_};
-ghost use lib.ListN.{length};
+ghost use lib.ListN.{length, take};
 ghost use Rattle.place.specs.Input.{Finished, Onward, Whole, bytesOf, roomLeft, stepOf};
+ghost use Rattle.plan.specs.rules.Sheet.{longestSheet};
 ghost use Rattle.plan.specs.theorems.Longer.{longestText};
-ghost use Rattle.place.specs.Reply.{Replied};
+ghost use Rattle.place.specs.Reply.{Replied, lengthOf};
 
 // What one read did: it brought so many bytes, or found the end of the input, or failed.
 enum Step {
@@ -90,25 +91,39 @@ fn read_input(text: &mut [u8]) -> Reading
     reading
 }
 
-// Writes the output that a buffer holds.
-fn write_output(written: Written, buffer: &[u8])
-    requires { ⌜ Replied written (now buffer) ⌝ }
+// How many bytes were written.
+fn length_of(written: Written) -> usize
+    ensures { λ r. ⌜ r ≡ lengthOf written ⌝ }
 {
-    if let Written::Bytes(n) = written {
-        if !io::write_all(STDOUT_FILENO, &buffer[..n]) {
-            io::write_all(STDERR_FILENO, b"place: standard output cannot be written\n");
-        }
+    match written {
+        Written::Bytes(n) => n,
+        Written::NotWritten(_) => 0,
     }
 }
 
-// Answers the list that stands at the start of a buffer. It is for a list that no failed read cut short.
+// Puts the output for a list that no failed read cut short into a buffer, and hands back its length.
+fn reply(reading: Reading, text: &[u8], buffer: &mut [u8]) -> usize
+    requires { ⌜ Whole reading (now text) × (longestSheet ≤ length (now buffer)) ⌝ }
+    ensures { λ n. ⌜ Replied (take (reading .at) (now (text .entry))) n (now (buffer .exit)) ⌝ }
+{
+    let n = reading.at;
+    length_of(output(&text[..n], buffer))
+}
+
+// Writes the output.
+fn write_output(output: &[u8]) {
+    if !io::write_all(STDOUT_FILENO, output) {
+        io::write_all(STDERR_FILENO, b"place: standard output cannot be written\n");
+    }
+}
+
+// Answers the list that stands at the start of the room, whole.
 fn answer_list(reading: Reading, text: &[u8])
     requires { ⌜ Whole reading (now text) ⌝ }
 {
-    let n = reading.at;
     let mut buffer = [0u8; TextLimits::SHEET];
-    let written = output(&text[..n], &mut buffer);
-    write_output(written, &buffer);
+    let n = reply(reading, text, &mut buffer);
+    write_output(&buffer[..n]);
 }
 
 // Answers what was read. A list cut short by a failed read yields no sheet.

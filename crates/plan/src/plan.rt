@@ -15,6 +15,7 @@ ghost use Rattle.placing.specs.rules.Units.{samePlace};
 ghost use Rattle.plan.specs.rules.Name.{bytesOf, mostNameBytes};
 ghost use Rattle.plan.specs.rules.Plan.{sitesIn, Valid};
 ghost use Rattle.plan.specs.rules.Calls.{started, plannedOr};
+ghost use Rattle.plan.specs.code.PlanLaws.{unplacedOf};
 ghost use Rattle.plan.specs.code.Taken.{ShortNames, namesTaken, placesTaken};
 ghost use Rattle.plan.specs.code.Entering.{NameFits, PlaceFits, enteredRead, firstFailed};
 ghost use Rattle.placing.specs.rules.Units.{mostSites};
@@ -65,10 +66,17 @@ impl Plan {
             x: Units(0),
             y: Units(0),
         };
+        Plan::unplaced(0, [none; Limits::SITES], [nowhere; Limits::SITES])
+    }
+
+    // The plan of this many sites, with their names and places, that is not placed.
+    fn unplaced(count: usize, names: [Name; Limits::SITES], places: [Place; Limits::SITES]) -> Plan
+        ensures { λ r. ⌜ r ≡ unplacedOf count names places ⌝ }
+    {
         Plan {
-            count: 0,
-            names: [none; Limits::SITES],
-            places: [nowhere; Limits::SITES],
+            count,
+            names,
+            places,
             placed: false,
             side: Side::Free,
             corners: [0u8; Limits::SITES],
@@ -163,14 +171,7 @@ pub(crate) fn enter_read(plan: Plan, name: NameRead, place: PlaceRead) -> Planne
     }
     names[n] = called;
     places[n] = spot;
-    let more = Plan {
-        count: n + 1,
-        names,
-        places,
-        placed: false,
-        side: Side::Free,
-        corners: [0u8; Limits::SITES],
-    };
+    let more = Plan::unplaced(n + 1, names, places);
     Planned {
         outcome: Outcome::Done,
         plan: more,

@@ -1,5 +1,6 @@
 -- `enter_read` meets its contract: the plan holds its sites, so that its tests are those of `enteredRead`, and a name and a place
 -- more make it the plan of one site more. Assumes nothing.
+use mathlib.Core.Path.{_∙_}
 use mathlib.Core.List.{List}
 use Prim.Native.Nat.{_<_}
 use native.Mathlib.Omega.{arith}
@@ -82,28 +83,32 @@ mul-places c = record { fits = omega (arith, room c) }
 array-set-from-places : tie.Need-array-set-from-places
 array-set-from-places c = room c
 
-add-t19 : tie.Need-add-t19
-add-t19 c = record { fits = omega (arith, room c) }
+add-unplaced : tie.Need-add-unplaced
+add-unplaced c = record { fits = omega (arith, room c) }
+
+unplaced-requires : tie.Need-unplaced-requires
+unplaced-requires c κs = search needs
 
 returns-2 : tie.Need-returns-2
 returns-2 c =
-    let call = c .before .before in
+    let told = c .before in
+    let call = told .before .before in
     let taken = call .before .before .before in
     let start = start-of call in
     let name = start .args .name in
     let place = start .args .place in
     let passed = read-passed (holding start) name place (taken .before .name-taken .ensures) (taken .place-taken .ensures)
-    (call .first-failed .ensures) (c .enum-told .given .1) in
+    (call .first-failed .ensures) (told .enum-told .given .1) in
     let on-plan = start .pre .2 .on-plan (not-false (place .ok) (passed .is-inside)) in
     let is-name = not-false (name .ok) (passed .is-named) in
     accepts (start .args .plan)
     (appended-listed (sites start) (siteOf (name .name) (place .place)) _ (holding start .listed) (start .pre .1 .named is-name)
     (on-plan .on-x .range) (on-plan .on-y .range)
     (read-appended (holding start) name place (taken .before .name-taken .ensures) (taken .place-taken .ensures)
-    (call .first-failed .ensures) (c .enum-told .given .1)))
-    (holding-more (holding start) (name .name) (place .place) (start .pre .1 .held is-name) (room c))
+    (call .first-failed .ensures) (told .enum-told .given .1)))
+    (c .unplaced .ensures ∙ holding-more (holding start) (name .name) (place .place) (start .pre .1 .held is-name) (room told))
     (read-accepted (holding start) name place (taken .before .name-taken .ensures) (taken .place-taken .ensures)
-    (call .first-failed .ensures) (c .enum-told .given .1))
+    (call .first-failed .ensures) (told .enum-told .given .1))
 
 pub enter-read-spec : {M : Type 1} → statement M
 enter-read-spec =
@@ -120,5 +125,6 @@ enter-read-spec =
     array-set-from-names
     mul-places
     array-set-from-places
-    add-t19
+    add-unplaced
+    unplaced-requires
     returns-2)

@@ -21,7 +21,7 @@ fn write_refusal(why: Refusal, buffer: &mut [u8]) -> Written
     ensures answer { λ r. ⌜ r ≡ refusalWritten why (now (buffer .entry)) ⌝ }
     ensures buffer { λ r. ⌜ now (buffer .exit) ≡ refusalAfter why (now (buffer .entry)) ⌝ }
 {
-    let mut line = [0u8; 16];
+    let mut line = [0u8; TextLimits::REFUSAL_LINE];
     let number = number_of(why);
     let word = put_bytes(&mut line, 0, b"refused\t", 8);
     let digits = put_decimal(&mut line, word, number as u32);

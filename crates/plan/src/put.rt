@@ -4,7 +4,7 @@ use crate::number::ZERO;
 ghost use Prim.Native.Nat.{_+_, _≤_, _<_};
 ghost use mathlib.Core.List.{[], _∷_};
 ghost use lib.ListN.{length, take};
-ghost use Rattle.plan.specs.rules.Number.{decimal};
+ghost use Rattle.plan.specs.rules.Number.{decimal, sevenDigits};
 ghost use Rattle.plan.specs.rules.Name.{bytesOf, mostNameBytes};
 ghost use Rattle.plan.specs.code.Put.{Put};
 
@@ -40,7 +40,7 @@ pub(crate) fn put_name(out: &mut [u8], at: usize, name: Name) -> usize
 
 // A number in decimal: the digits of its tenth part, then its last digit.
 pub(crate) fn put_decimal(out: &mut [u8], at: usize, n: u32) -> usize
-    requires { ⌜ (n < 1000000) × (at + length (decimal n) ≤ length (now out)) ⌝ }
+    requires { ⌜ (n < sevenDigits) × (at + length (decimal n) ≤ length (now out)) ⌝ }
     ensures { λ r. ⌜ Put (now (out .entry)) at (decimal n) r (now (out .exit)) ⌝ }
 {
     if n < 10 {

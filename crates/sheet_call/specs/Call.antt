@@ -15,7 +15,7 @@ use Rattle.plan.specs.code.Refusing.{number-small}
 use Rattle.plan.specs.rules.Site.{Site, Listed}
 use Rattle.plan.specs.rules.Enter.{Sites, accepted, refused}
 use Rattle.plan.specs.rules.List.{readList, read-listed}
-use Rattle.plan.specs.rules.Sheet.{sheetOf, sheet-shortest}
+use Rattle.plan.specs.rules.Sheet.{sheetOf, shortestSheet, sheet-shortest}
 use Rattle.plan.specs.rules.Output.{outputOf, output-sheet}
 use Rattle.plan.specs.Demands.{NoRival}
 use Rattle.plan.specs.theorems.SheetLaws.{no-rival}
@@ -45,12 +45,12 @@ calledFor (accepted (site ∷ sites)) buffer =
 abbrev pub called : List ℕ → List ℕ → Called
 called list buffer = calledFor (readList list) buffer
 
--- What the number tells a caller: from 18 on the buffer starts with what the placing program writes for the list, a sheet that no
--- rival betters (demand 3); below 18 the buffer is as it came.
+-- What the number tells a caller: from 18 on, which is the length of the shortest sheet, the buffer starts with what the placing
+-- program writes for the list, a sheet that no rival betters (demand 3); below 18 the buffer is as it came.
 pub record Told (list buffer : List ℕ) (number : ℕ) (after : List ℕ) : Type 0 where
-  pub sheet : 18 ≤ number → take number after ≡ outputOf list
-  pub rivals : 18 ≤ number → NoRival (take number after)
-  pub same : number < 18 → after ≡ buffer
+  pub sheet : shortestSheet ≤ number → take number after ≡ outputOf list
+  pub rivals : shortestSheet ≤ number → NoRival (take number after)
+  pub same : number < shortestSheet → after ≡ buffer
 
 -- The number of a refusal is below 18.
 refusal-told : (list buffer : List ℕ) (why : Refusal) → Told list buffer (numberOf why) buffer

@@ -2,7 +2,7 @@
 -- Assumes nothing.
 use mathlib.Core.Path.{_≡_}
 use mathlib.Core.List.{[], _∷_, _++_, append-assoc}
-use Prim.Native.Nat.{ℕ, _≤_}
+use Prim.Native.Nat.{ℕ, _+_, _≤_}
 use native.Mathlib.Omega.{arith}
 use lib.ListN.{length, length-append}
 use Rattle.plan.specs.declared.refusal.Refusal.{Refusal}
@@ -21,7 +21,7 @@ use Rattle.plan.specs.declared.refusal.Refusal.the-variants.{
 }
 use Rattle.plan.specs.rules.Refusal.{numberOf}
 use Rattle.plan.specs.rules.Text.{tab, lineFeed}
-use Rattle.plan.specs.rules.Number.{decimal, decimal-short}
+use Rattle.plan.specs.rules.Number.{decimal, mostDigits, decimal-short}
 use Rattle.plan.specs.rules.Output.{refusedWord, refusalLine}
 
 -- Numbers of refusals end with 11.
@@ -39,11 +39,14 @@ number-small ShortBuffer = omega arith
 number-small ShortTable = omega arith
 
 -- So they are written in at most five digits,
-pub number-short : (why : Refusal) → length (decimal (numberOf why)) ≤ 5
+pub number-short : (why : Refusal) → length (decimal (numberOf why)) ≤ mostDigits
 number-short why = decimal-short (numberOf why) (omega (arith, number-small why))
 
--- and the line has at most 14 bytes.
-pub refusal-short : (why : Refusal) → length (refusalLine why) ≤ 14
+-- and the line has the word refused, a tab, so many digits and a line feed.
+abbrev pub longestRefusalLine : ℕ
+longestRefusalLine = 7 + 1 + mostDigits + 1
+
+pub refusal-short : (why : Refusal) → length (refusalLine why) ≤ longestRefusalLine
 unfolding refusalLine
 refusal-short why = simp length-append (omega (arith, number-short why))
 

@@ -46,6 +46,13 @@ pub digitsOf : ℕ → ℕ → List ℕ
 digitsOf zero n = (zeroDigit + n % 10) ∷ []
 digitsOf (suc k) n = elim (ltb n 10) [ true ↦ (zeroDigit + n) ∷ [] | false ↦ digitsOf k (n / 10) ++ ((zeroDigit + n % 10) ∷ []) ]
 
+-- The least number of six digits, and that of seven.
+abbrev pub sixDigits : ℕ
+sixDigits = 100000
+
+abbrev pub sevenDigits : ℕ
+sevenDigits = 1000000
+
 -- The decimal digits of n, which is below 1,000,000: every number of a sheet is.
 pub decimal : ℕ → List ℕ
 decimal n = digitsOf 5 n
@@ -177,17 +184,17 @@ number-written (b ∷ c ∷ bytes) n e = by-lead (eqb b zeroDigit) refl e
 -- ---- laws: decimal
 
 -- The number that is written is read.
-pub number-decimal : (n : ℕ) → n < 1000000 → numberIn (decimal n) ≡ some n
+pub number-decimal : (n : ℕ) → n < sevenDigits → numberIn (decimal n) ≡ some n
 unfolding decimal
 number-decimal n below = written-number n (digitsOf 5 n) (digits-write 5 n below)
 
 -- A number that is read was written so: there is one way to write it.
-pub decimal-number : (text : List ℕ) (n : ℕ) → numberIn text ≡ some n → n < 1000000 → text ≡ decimal n
+pub decimal-number : (text : List ℕ) (n : ℕ) → numberIn text ≡ some n → n < sevenDigits → text ≡ decimal n
 unfolding decimal
 decimal-number text n e below = written-digits 5 n text (number-written text n e) below
 
 -- A number below 100,000 needs no sixth digit.
-decimal-five : (n : ℕ) → n < 100000 → digitsOf 4 n ≡ decimal n
+decimal-five : (n : ℕ) → n < sixDigits → digitsOf 4 n ≡ decimal n
 unfolding decimal
 decimal-five n below = written-digits 5 n (digitsOf 4 n) (digits-write 4 n below) (omega arith)
 
@@ -196,7 +203,7 @@ pub decimal-digit : (n : ℕ) → n < 10 → decimal n ≡ (zeroDigit + n) ∷ [
 unfolding decimal
 decimal-digit n small = digits-small 5 n small
 
-pub decimal-large : (n : ℕ) → 10 ≤ n → n < 1000000 → decimal n ≡ decimal (n / 10) ++ ((zeroDigit + n % 10) ∷ [])
+pub decimal-large : (n : ℕ) → 10 ≤ n → n < sevenDigits → decimal n ≡ decimal (n / 10) ++ ((zeroDigit + n % 10) ∷ [])
 unfolding decimal
 decimal-large n large below = rw (digits-large 4 n large, decimal-five (n / 10) (omega arith))
 
@@ -240,6 +247,10 @@ pub decimal-some : (n : ℕ) → 1 ≤ length (decimal n)
 unfolding decimal
 decimal-some n = digits-digits 5 n .some-digit
 
--- A number below 100,000 is written in at most five.
-pub decimal-short : (n : ℕ) → n < 100000 → length (decimal n) ≤ 5
+-- The most digits of a coordinate or a side: both are below 100,000.
+abbrev pub mostDigits : ℕ
+mostDigits = 5
+
+-- Such a number is written in no more.
+pub decimal-short : (n : ℕ) → n < sixDigits → length (decimal n) ≤ mostDigits
 decimal-short n below = rw (← decimal-five n below) (digits-digits 4 n .few)

@@ -14,8 +14,8 @@ use Rattle.placing.specs.rules.Corner.{Corner}
 use Rattle.placing.specs.rules.Choice.{Corners, Good, cornerAt}
 use Rattle.placing.specs.rules.Answer.{Answer, answerOf, IsAnswer, is-free, is-number, answer-is}
 use Rattle.plan.specs.rules.Text.{tab, lineFeed, linesAfter, linesOf, Without, without-append, lines-more}
-use Rattle.plan.specs.rules.Number.{decimal, decimal-without, decimal-short, decimal-some, decimal-digit}
-use Rattle.plan.specs.rules.Name.{name-short, name-some}
+use Rattle.plan.specs.rules.Number.{decimal, mostDigits, decimal-without, decimal-short, decimal-some, decimal-digit}
+use Rattle.plan.specs.rules.Name.{mostNameBytes, name-short, name-some}
 use Rattle.plan.specs.rules.Site.{Site, placesOf, placeOf, noSite, Listed, ByRules, place-at}
 use Rattle.plan.specs.rules.List.{listLine, line-without}
 
@@ -54,7 +54,7 @@ answer-corners (is-free first) = first .good .corners
 answer-corners (is-number none-free least most first above) = first .good .corners
 
 -- A side is written in at most five bytes,
-side-short : {ps : List Place} {a : Answer} → IsAnswer ps a → length (sideText (a .side)) ≤ 5
+side-short : {ps : List Place} {a : Answer} → IsAnswer ps a → length (sideText (a .side)) ≤ mostDigits
 side-short (is-free first) = omega arith
 side-short (is-number {h} none-free least most first above) = decimal-short h (omega arith)
 
@@ -172,10 +172,22 @@ sheet-lines sites listed =
 
 -- ---- how long a sheet is
 
--- The bytes of a site's line before its line feed: 7 to 22.
+-- The most bytes of the first line: the word side, a tab, five digits, a line feed.
+abbrev pub longestSideLine : ℕ
+longestSideLine = 4 + 1 + mostDigits + 1
+
+-- The most bytes of the line of a site: a name, two numbers of five digits, a corner, each with a tab or line feed behind it.
+abbrev pub longestSiteLine : ℕ
+longestSiteLine = (mostNameBytes + 1) + 2 * (mostDigits + 1) + (1 + 1)
+
+-- The least: a byte for each of the four, with a tab or line feed behind it.
+abbrev pub shortestSiteLine : ℕ
+shortestSiteLine = 4 * (1 + 1)
+
+-- How many bytes the line of a site has, with its line feed.
 record Sized (n : ℕ) : Type 0 where
-  least : 7 ≤ n
-  most : n ≤ 22
+  least : shortestSiteLine ≤ n + 1
+  most : n + 1 ≤ longestSiteLine
 
 -- The names, coordinates and corners by the rules make it so.
 line-sized : {site : Site} {corner : ℕ} → ByRules site → Corner corner → Sized (length (siteLine site corner))
@@ -189,14 +201,6 @@ line-sized {site} {corner} rules c =
     let name = name-short (site .name) (rules .named) in
     let name-is-some = name-some (site .name) (rules .named) in
     record { least = simp length-append (omega arith); most = simp length-append (omega arith) }
-
--- The most bytes of the first line: the word side, a tab, five digits, a line feed.
-abbrev pub longestSideLine : ℕ
-longestSideLine = 11
-
--- The most bytes of the line of a site: a name, two numbers of five digits, a corner, each with a tab or line feed behind it.
-abbrev pub longestSiteLine : ℕ
-longestSiteLine = 23
 
 -- No sheet is longer: a bound, which is never reached.
 abbrev pub longestSheet : ℕ
@@ -212,7 +216,7 @@ lines-longest (one-more {site} {sites} {corner} {corners} rules c rest) =
     omega (arith, length-append (siteLine site corner) (lineFeed ∷ siteLines sites corners))
 
 -- and at least 8.
-lines-shortest : {sites : List Site} {corners : List ℕ} → Lined sites corners → 8 * length sites ≤ length (siteLines sites corners)
+lines-shortest : {sites : List Site} {corners : List ℕ} → Lined sites corners → shortestSiteLine * length sites ≤ length (siteLines sites corners)
 unfolding siteLines
 lines-shortest no-line = omega arith
 lines-shortest (one-more {site} {sites} {corner} {corners} rules c rest) =
@@ -228,8 +232,12 @@ sheet-longest sites listed =
     let lines = lines-longest (answer-lined sites listed) in
     simp length-append (omega (arith, listed .few))
 
--- The shortest sheet: one site, which is free.
-pub sheet-shortest : (sites : List Site) → Listed sites → 1 ≤ length sites → 18 ≤ length (sheetOf sites)
+-- No sheet is shorter: the word side, a tab, the word free, a line feed, and the line of one site.
+abbrev pub shortestSheet : ℕ
+shortestSheet = 4 + 1 + 4 + 1 + shortestSiteLine
+
+-- One site is free, and more sites have more lines.
+pub sheet-shortest : (sites : List Site) → Listed sites → 1 ≤ length sites → shortestSheet ≤ length (sheetOf sites)
 unfolding sheetOf sheetWith
 sheet-shortest [] listed nonempty = absurd (omega arith)
 sheet-shortest (site ∷ []) listed nonempty =

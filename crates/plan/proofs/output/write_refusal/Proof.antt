@@ -5,11 +5,11 @@ use Prim.Native.Nat.{_+_, _≤_}
 use native.Mathlib.Omega.{arith}
 use lib.ListN.{length, replicate}
 use denote.Ref.{now}
-use Rattle.plan.specs.rules.Number.{decimal}
+use Rattle.plan.specs.rules.Number.{decimal, mostDigits}
 use Rattle.plan.specs.rules.Output.{refusalLine}
 use Rattle.plan.specs.code.Put.{Put}
 use Rattle.plan.specs.code.PutLaws.{put-then, put-same, put-length, put-room}
-use Rattle.plan.specs.code.Refusing.{number-small, number-short, refusal-parts, refusal-short}
+use Rattle.plan.specs.code.Refusing.{number-small, number-short, longestRefusalLine, refusal-parts, refusal-short}
 use Rattle.plan.specs.code.Filling.{filled-short, filled-copied}
 use Rattle.plan.proofs.output.write_refusal.Statement.{statement}
 use Rattle.plan.proofs.output.write_refusal.Tie as tie
@@ -32,12 +32,12 @@ slice-aggregate-put-decimal c = search needs
 cast-put-decimal : tie.Need-cast-put-decimal
 cast-put-decimal c = search needs
 
--- There is room for the number,
-word-room : (c : tie.After-put-bytes) → c .put-bytes .result + 8 ≤ length (c .put-bytes .last .0)
-word-room c = put-room (c .put-bytes .ensures) 8 8 (omega arith) (omega arith)
+-- There is room for the number and the line feed:
+word-room : (c : tie.After-put-bytes) → c .put-bytes .result + (mostDigits + 1) ≤ length (c .put-bytes .last .0)
+word-room c = put-room (c .put-bytes .ensures) 8 (mostDigits + 1) (omega arith) (omega arith)
 
--- which has at most five digits,
-number-fits : (c : tie.After-number-of) → length (decimal (c .number-of .result)) ≤ 5
+-- the number has at most five digits,
+number-fits : (c : tie.After-number-of) → length (decimal (c .number-of .result)) ≤ mostDigits
 number-fits c = rw (c .number-of .ensures) (number-short (c .before .before .args .why))
 
 put-decimal-requires : tie.Need-put-decimal-requires
@@ -47,11 +47,11 @@ put-decimal-requires c κs =
       omega (arith, number-fits numbered, word-room (c .before .before)),
     )
 
--- and for the line feed.
-number-room : (c : tie.After-put-decimal) → c .put-decimal .result + 3 ≤ length (c .put-decimal .last .0)
+-- and the line feed is one byte.
+number-room : (c : tie.After-put-decimal) → c .put-decimal .result + 1 ≤ length (c .put-decimal .last .0)
 number-room c =
     let word = c .before .before .before in
-    put-room (c .put-decimal .ensures) 5 3 (number-fits (word .before .before .before)) (word-room word)
+    put-room (c .put-decimal .ensures) mostDigits 1 (number-fits (word .before .before .before)) (word-room word)
 
 slice-aggregate-put-byte : tie.Need-slice-aggregate-put-byte
 slice-aggregate-put-byte c = search needs
@@ -65,7 +65,7 @@ from-line c = c .before .before .before .before .before .before .before .before 
 
 -- The line is made.
 line-made : (c : tie.After-put-byte)
-    → Put (replicate 16 0) 0 (refusalLine (from-line c .args .why)) (c .put-byte .result) (c .put-byte .last .0)
+    → Put (replicate longestRefusalLine 0) 0 (refusalLine (from-line c .args .why)) (c .put-byte .result) (c .put-byte .last .0)
 line-made c =
     let digits = c .before .before .before in
     let word = digits .before .before .before in
@@ -74,8 +74,8 @@ line-made c =
     (refusal-parts (from-line c .args .why) (numbered .number-of .ensures))
 
 -- It is no longer than the array.
-line-fits : (c : tie.Start) → length (refusalLine (c .args .why)) ≤ 16
-line-fits c = omega (arith, refusal-short (c .args .why))
+line-fits : (c : tie.Start) → length (refusalLine (c .args .why)) ≤ longestRefusalLine
+line-fits c = refusal-short (c .args .why)
 
 returns : tie.Need-returns
 returns c =

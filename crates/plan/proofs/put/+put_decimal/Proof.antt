@@ -5,7 +5,7 @@ use Prim.Native.Nat.{ℕ, _+_, _/_, _≤_, _<_}
 use native.Mathlib.Omega.{arith}
 use lib.ListN.{length, length-append}
 use borrow.Author.Needs.{needs}
-use Rattle.plan.specs.rules.Number.{decimal, decimal-digit, decimal-large}
+use Rattle.plan.specs.rules.Number.{decimal, decimal-digit, decimal-large, sevenDigits}
 use Rattle.plan.specs.code.PutLaws.{put-then, put-same, put-length}
 use borrow.Fn.Kinds.{In}
 use borrow.Fn.PlainCycle.{Measures, is, falls, and}
@@ -17,7 +17,7 @@ use Rattle.plan.proofs.put.+put_decimal.{statement}
 use Rattle.plan.proofs.put.+put_decimal.Tie.{close}
 
 -- A number has one digit more than its tenth part.
-one-longer : (n : ℕ) → 10 ≤ n → n < 1000000 → length (decimal n) ≡ length (decimal (n / 10)) + 1
+one-longer : (n : ℕ) → 10 ≤ n → n < sevenDigits → length (decimal n) ≡ length (decimal (n / 10)) + 1
 one-longer n h few = ap length (decimal-large n h few) ∙ simp length-append
 
 abbrev μ-put-decimal : Measures 1 put-decimal-kinds.ps ℕ

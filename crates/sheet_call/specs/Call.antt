@@ -12,7 +12,7 @@ use Rattle.plan.specs.declared.refusal.Refusal.{Refusal}
 use Rattle.plan.specs.declared.refusal.Refusal.the-variants.{NoSites, ShortBuffer}
 use Rattle.plan.specs.rules.Refusal.{numberOf}
 use Rattle.plan.specs.code.Refusing.{number-small}
-use Rattle.plan.specs.rules.Site.{Site, Listed}
+use Rattle.plan.specs.rules.Site.{Site}
 use Rattle.plan.specs.rules.Enter.{Sites, accepted, refused}
 use Rattle.plan.specs.rules.List.{readList, read-listed}
 use Rattle.plan.specs.rules.Sheet.{sheetOf, shortestSheet, sheet-shortest}

@@ -16,7 +16,6 @@ use Rattle.plan.specs.declared.refusal.Refusal.{Refusal}
 use Rattle.plan.specs.declared.refusal.Refusal.the-variants.{NoSites}
 use Rattle.plan.specs.rules.Refusal.{numberOf}
 use Rattle.plan.specs.code.Refusing.{refusal-short}
-use Rattle.plan.specs.rules.Site.{Site}
 use Rattle.plan.specs.rules.Enter.{Sites, accepted, refused}
 use Rattle.plan.specs.rules.List.{readList, read-listed}
 use Rattle.plan.specs.rules.Sheet.{sheetOf, sheet-shortest}

@@ -99,7 +99,7 @@ pub unplaced-placed : (sites : List Site) (table : List ℕ) → Listed sites �
 unfolding unplaced
 unplaced-placed sites table listed nonempty room =
     placed-done (unplaced sites) table (λ none. omega arith) room
-    ∙ ap (λ (l : List Site). record { outcome = Done; plan = placed l }) (sites-unplaced sites listed)
+    ∙ ap (λ (l : List Site). record { outcome = Done; plan = placed l }) (sites-unplaced sites)
 
 -- "Placing a placed plan gives the same answer again": the same plan.
 pub placed-again : {plan : Plan} (table : List ℕ) → Valid plan → plan .placed ≡ true → plan .count * plan .count ≤ length table
@@ -108,7 +108,7 @@ unfolding unplaced placed
 placed-again table (is-unplaced sites listed) is-so room = absurd (false≢true is-so)
 placed-again table (is-placed sites listed nonempty) is-so room =
     placed-done (placed sites) table (λ none. omega arith) room
-    ∙ ap (λ (l : List Site). record { outcome = Done; plan = placed l }) (sites-placed sites listed)
+    ∙ ap (λ (l : List Site). record { outcome = Done; plan = placed l }) (sites-placed sites)
 
 -- ---- asking: tests 9, 6
 

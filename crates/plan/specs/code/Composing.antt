@@ -168,7 +168,7 @@ module _ (sites : List Site) (listed : Listed sites) where
   -- The lines of the first sites are those of the list.
   lines-held : (i : ℕ) → linesTo (placed sites) i ≡ siteLines (take i sites) (placed sites .corners)
   unfolding linesTo
-  lines-held i = ap (λ (l : List Site). siteLines (take i l) (placed sites .corners)) (sites-placed sites listed)
+  lines-held i = ap (λ (l : List Site). siteLines (take i l) (placed sites .corners)) (sites-placed sites)
 
   -- One site more is one line more,
   one-line-held : (i : ℕ) → i < length sites
@@ -190,7 +190,7 @@ module _ (sites : List Site) (listed : Listed sites) where
       ∙ ap (λ (l : List Site). siteLines l (placed sites .corners)) (take-length sites)
       ∙ lines-past sites (answerOf (placesOf sites) .corners) _ (omega (arith, corners-enough)))
       ∙ sheet-of-lines sites (answerOf (placesOf sites))
-      ∙ ap sheetOf (sym (sites-placed sites listed))
+      ∙ ap sheetOf (sym (sites-placed sites))
 
   -- So the plan of some sites can be printed.
   placed-printable : Printable (placed sites)

@@ -76,8 +76,8 @@ filled-taken {text} {buffer} {after} {answer} {n} filled is =
 
 -- The sites of a valid plan are by the rules.
 pub valid-listed : {plan : Plan} → Valid plan → Listed (sitesIn plan)
-valid-listed (is-unplaced sites listed) = rw (sites-unplaced sites listed) listed
-valid-listed (is-placed sites listed nonempty) = rw (sites-placed sites listed) listed
+valid-listed (is-unplaced sites listed) = rw (sites-unplaced sites) listed
+valid-listed (is-placed sites listed nonempty) = rw (sites-placed sites) listed
 
 -- Writing a placed plan answers as filling the buffer with its sheet does.
 pub write-fills : (plan : Plan) (buffer : List ℕ) → plan .placed ≡ true
@@ -201,7 +201,7 @@ place-done text table {listed} {done} size listed-is is-read done-is is =
         subst (λ (p : Planned). PlanOf text (p .plan)) (sym (placed-in (site ∷ sites) table listed (omega arith) size))
         (record {
           is-placed = refl;
-          sheet-is = ap sheetOf (sites-placed (site ∷ sites) listed) ∙ sym (output-sheet text (site ∷ sites) read (omega arith));
+          sheet-is = ap sheetOf (sites-placed (site ∷ sites)) ∙ sym (output-sheet text (site ∷ sites) read (omega arith));
         })
 
 -- Where the output is the line of a refusal, writing that line fills the buffer with the output.

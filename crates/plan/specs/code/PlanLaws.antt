@@ -35,9 +35,9 @@ pub record Holding (plan : Plan) (sites : List Site) : Type 0 where
 pub valid-holding : {plan : Plan} → Valid plan → Holding plan (sitesIn plan)
 unfolding unplaced placed
 valid-holding (is-unplaced sites listed) =
-    rw (sites-unplaced sites listed) (record { listed = listed; count = refl; names = refl; places = refl })
+    rw (sites-unplaced sites) (record { listed = listed; count = refl; names = refl; places = refl })
 valid-holding (is-placed sites listed some-sites) =
-    rw (sites-placed sites listed) (record { listed = listed; count = refl; names = refl; places = refl })
+    rw (sites-placed sites) (record { listed = listed; count = refl; names = refl; places = refl })
 
 -- A plan that is not placed, from its count, names and places.
 abbrev pub unplacedOf : ℕ → List Name → List Place → Plan
@@ -156,7 +156,7 @@ pub valid-answer : {plan : Plan} → Valid plan → plan .placed ≡ true → an
 unfolding unplaced
 valid-answer (is-unplaced sites listed) is-so = absurd (false≢true is-so)
 valid-answer (is-placed sites listed some-sites) is-so =
-    placed-answer sites (listed .places-distinct) ∙ ap (λ (l : List Site). answerOf (placesOf l)) (sym (sites-placed sites listed))
+    placed-answer sites (listed .places-distinct) ∙ ap (λ (l : List Site). answerOf (placesOf l)) (sym (sites-placed sites))
 
 -- so its side
 pub valid-side : {plan : Plan} → Valid plan → plan .placed ≡ true → plan .side ≡ answerOf (placesOf (sitesIn plan)) .side

@@ -121,7 +121,7 @@ reading-valid so-far = rw (so-far .held) (is-unplaced (so-far .sites) (so-far .l
 
 -- It holds the sites so far.
 reading-sites : {text : List ℕ} {plan : Plan} {at : ℕ} (so-far : Reading text plan at) → sitesIn plan ≡ so-far .sites
-reading-sites so-far = ap sitesIn (so-far .held) ∙ sites-unplaced (so-far .sites) (so-far .listed)
+reading-sites so-far = ap sitesIn (so-far .held) ∙ sites-unplaced (so-far .sites)
 
 -- At the text's end, the whole text is read into the plan.
 pub reading-ends : {text : List ℕ} {plan : Plan} {at : ℕ} → Reading text plan at → length text ≤ at

@@ -82,14 +82,14 @@ sites-held sites =
     (sites-side-by-side sites)
 
 -- The plan of some sites holds them, while it is not placed
-pub sites-unplaced : (sites : List Site) → Listed sites → sitesIn (unplaced sites) ≡ sites
+pub sites-unplaced : (sites : List Site) → sitesIn (unplaced sites) ≡ sites
 unfolding unplaced sitesIn
-sites-unplaced sites listed = sites-held sites
+sites-unplaced sites = sites-held sites
 
 -- and once it is.
-pub sites-placed : (sites : List Site) → Listed sites → sitesIn (placed sites) ≡ sites
+pub sites-placed : (sites : List Site) → sitesIn (placed sites) ≡ sites
 unfolding placed sitesIn
-sites-placed sites listed = sites-held sites
+sites-placed sites = sites-held sites
 
 -- A plan that the calls hand back.
 pub data Valid : Plan → Type 0 where

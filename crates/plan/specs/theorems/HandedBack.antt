@@ -97,21 +97,21 @@ handed-valid (by-place table before) = place-valid table (handed-valid before)
 
 -- A start has none.
 pub started-counted : counted started ≡ 0
-started-counted = ap length (sites-unplaced [] listed-none)
+started-counted = ap length (sites-unplaced [])
 
 -- A list that is accepted gives as many as it has.
 pub read-counted : (text : List ℕ) (sites : List Site) → readList text ≡ accepted sites → counted (readFrom text .plan) ≡ length sites
 read-counted text sites is =
-    ap (λ (read : Sites). counted (plannedOr started read .plan)) is ∙ ap length (sites-unplaced sites (read-listed text sites is))
+    ap (λ (read : Sites). counted (plannedOr started read .plan)) is ∙ ap length (sites-unplaced sites)
 
 -- Placing keeps them.
-pub placed-counted : (plan : Plan) (table : List ℕ) → Valid plan → counted (placedIn plan table .plan) ≡ counted plan
-placed-counted plan table valid = by-tests (eqb (plan .count) 0) (ltb (length table) (plan .count * plan .count))
+pub placed-counted : (plan : Plan) (table : List ℕ) → counted (placedIn plan table .plan) ≡ counted plan
+placed-counted plan table = by-tests (eqb (plan .count) 0) (ltb (length table) (plan .count * plan .count))
   where
     by-tests : (none short : Bool) → counted (placeWhere none short plan .plan) ≡ counted plan
     by-tests true short = refl
     by-tests false true = refl
-    by-tests false false = ap length (sites-placed (sitesIn plan) (valid-holding valid .listed))
+    by-tests false false = ap length (sites-placed (sitesIn plan))
 
 -- Sites that a site was entered into are one more.
 entered-more : (sites : List Site) (name : List ℕ) (x y : ℕ) (more : List Site) → entered sites name x y ≡ accepted more
@@ -124,13 +124,13 @@ entered-more sites name x y more is =
     ap length (appended-more sites site more (fits .1)) ∙ length-append sites (site ∷ [])
 
 -- The count after an accepted entering is one more.
-pub entered-counted : (plan : Plan) (name : List ℕ) (x y : ℕ) → Valid plan → enteredIn plan name x y .outcome ≡ Done
+pub entered-counted : (plan : Plan) (name : List ℕ) (x y : ℕ) → enteredIn plan name x y .outcome ≡ Done
     → counted (enteredIn plan name x y .plan) ≡ counted plan + 1
-entered-counted plan name x y valid = by-sites (entered (sitesIn plan) name x y) refl
+entered-counted plan name x y = by-sites (entered (sitesIn plan) name x y) refl
   where
     by-sites : (sites : Sites) → entered (sitesIn plan) name x y ≡ sites → plannedOr plan sites .outcome ≡ Done
         → counted (plannedOr plan sites .plan) ≡ counted plan + 1
     by-sites (refused why) is done = let z : _≡_ {A = ℕ} 0 1 = cc in absurd (omega arith)
     by-sites (accepted more) is done =
-        ap length (sites-unplaced more (entered-listed (sitesIn plan) name x y more (valid-holding valid .listed) is))
+        ap length (sites-unplaced more)
         ∙ entered-more (sitesIn plan) name x y more is

@@ -142,7 +142,7 @@ module _ (table : List ℕ) (enough : mostSites * mostSites ≤ length table) wh
         le-ltb (length table) (length (site ∷ sites) * length (site ∷ sites)) (le-trans (mul-le-mul (listed .few) (listed .few)) enough),
       )
       (ap answered
-      (ap (λ (held : List Site). answerIn (placed held)) (sites-unplaced (site ∷ sites) listed)
+      (ap (λ (held : List Site). answerIn (placed held)) (sites-unplaced (site ∷ sites))
       ∙ placed-answer (site ∷ sites) (listed .places-distinct)))
 
   -- The calls on plans lead where the sites by themselves do.
@@ -150,7 +150,7 @@ module _ (table : List ℕ) (enough : mostSites * mostSites ≤ length table) wh
       → leadsFrom table i (unplaced sites) entries ≡ endOf (runFrom i sites entries)
   leads-run i sites listed [] = placing-run i sites listed
   leads-run i sites listed (entry ∷ entries) =
-      rw (sites-unplaced sites listed)
+      rw (sites-unplaced sites)
       (step (λ more each. leads-run (suc i) more each entries) (entered sites (entry .name) (entry .x) (entry .y)) refl)
     where
       step : ((more : List Site) → Listed more → leadsFrom table (suc i) (unplaced more) entries ≡ endOf (runFrom (suc i) more entries))

@@ -1,5 +1,6 @@
 -- What the functions ask and promise, in terms of the arrays that they hold.
 pub mod Sites
+pub mod Labels
 pub mod Crowding
 pub mod Ways
 pub mod Asks

@@ -11,7 +11,7 @@ ghost use mathlib.Core.Path.{_≡_};
 ghost use Prim.Native.Nat.{_+_, _<_};
 ghost use Rattle.placing.specs.rules.Answer.{firstGood};
 ghost use Rattle.placing.specs.code.Sites.{sitesOf};
-ghost use Rattle.placing.specs.search.Labels.{labels};
+ghost use Rattle.placing.specs.code.Labels.{labels};
 ghost use Rattle.placing.specs.code.Ways.{Tried, WalkedTo, Kept};
 ghost use Rattle.placing.specs.code.Asks.{MayWalk, MayDecide, MayChoose};
 ghost use Rattle.placing.specs.code.Chosen.{choiceIn};

@@ -4,7 +4,7 @@ use mathlib.Core.Path.{_≡_}
 use mathlib.Core.List.{List}
 use mathlib.Core.Logic.{_≢_}
 use Prim.Native.Nat.{ℕ, _≤_, _<_}
-use lib.ListN.{length, getD}
+use lib.ListN.{length}
 use Rattle.placing.specs.declared.units.HalfUnits.{HalfUnits}
 use Rattle.placing.specs.declared.crowding.Crowding.{Crowding}
 use Rattle.placing.specs.rules.Units.{Judged}
@@ -13,8 +13,12 @@ use Rattle.placing.specs.rules.Choice.{cornerAt}
 use Rattle.placing.specs.code.Sites.{Held, HasPlace, sitesOf}
 use Rattle.placing.specs.code.Crowding.{CrowdingIs}
 use Rattle.placing.specs.search.State.{Underway, Closed, Walked}
-use Rattle.placing.specs.search.Labels.{labels}
+use Rattle.placing.specs.code.Labels.{MeetAt, labels}
 use Rattle.placing.specs.code.Ways.{rowOf, Sizes, Settled, AllSettled}
+
+-- Of the open corners of site j only c has a label that meets the one at corner c of site k.
+pub record OnlyEqual (xs ys : List ℕ) (side : HalfUnits) (ways : List ℕ) (k c j : ℕ) : Type 0 where
+  pub equal : (e : ℕ) → rowOf ways j e ≡ 1 → MeetAt (side .0) xs ys k c j e → e ≡ c
 
 -- Carrying the decision c of site k to another site j.
 pub record MayCarryTo (xs ys : List ℕ) (side : HalfUnits) (ways decided : List ℕ) (k c j : ℕ) : Type 0 where
@@ -26,6 +30,7 @@ pub record MayCarryTo (xs ys : List ℕ) (side : HalfUnits) (ways decided : List
   pub corner : Corner c
   pub is-decided : c ≡ cornerAt decided k
   pub settled : Settled ways decided j
+  pub only-equal : OnlyEqual xs ys side ways k c j
 
 -- Carrying out the decision of site k.
 pub record MayCarryOut (n : ℕ) (xs ys : List ℕ) (side : HalfUnits) (ways decided : List ℕ) (k : ℕ) : Type 0 where
@@ -34,6 +39,7 @@ pub record MayCarryOut (n : ℕ) (xs ys : List ℕ) (side : HalfUnits) (ways dec
   pub listed : k < n
   pub corner : Corner (cornerAt decided k)
   pub settled : AllSettled n ways decided
+  pub only-equal : (j : ℕ) → j < n → j ≢ k → OnlyEqual xs ys side ways k (cornerAt decided k) j
 
 -- Carrying out all decisions that are not marked.
 pub record MayCarryOn (n : ℕ) (xs ys : List ℕ) (side : HalfUnits) (ways decided marks : List ℕ) : Type 0 where

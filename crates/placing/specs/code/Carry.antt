@@ -11,13 +11,13 @@ use lib.ListN.{length, getD, set, length-set}
 use lib.Seq.{getD-set-same, getD-set-other}
 use Rattle.placing.specs.declared.units.HalfUnits.{HalfUnits}
 use Rattle.placing.specs.rules.Corner.{Corner}
-use Rattle.placing.specs.rules.Units.{mostSites, OnPlan}
+use Rattle.placing.specs.rules.Units.{mostSites}
 use Rattle.placing.specs.rules.Meet.{Meet}
 use Rattle.placing.specs.code.Sites.{placeAt, held-place}
 use Rattle.placing.specs.rules.Choice.{cornerAt}
 use Rattle.placing.specs.search.Problem.{Problem}
 use Rattle.placing.specs.search.State.{TwoOpen, CarriedTo}
-use Rattle.placing.specs.search.Labels.{labels}
+use Rattle.placing.specs.code.Labels.{labels}
 use Rattle.placing.specs.code.Asks.{MayCarryTo, MayCarryOut}
 use Rattle.placing.specs.code.Ways.{
   rowOf,
@@ -179,9 +179,9 @@ module _ (P : Problem) (ways decided : List ℕ) (k j : ℕ) (settled : Settled 
         stuck = λ e. absurd (true≢false e);
       }
 
-  -- Where an open corner c of site j is closed that alone is in conflict, the decision is carried there.
+  -- Where corner c of site j is closed, the only open one in conflict, the decision is carried there.
   carried-closed : (c : ℕ) (ok : Bool) (ways′ decided′ : List ℕ) → rowOf ways j c ≡ 1 → P .Conflict k (cornerAt decided k) j c
-      → ((e : ℕ) → P .Conflict k (cornerAt decided k) j e → e ≡ c)
+      → ((e : ℕ) → rowOf ways j e ≡ 1 → P .Conflict k (cornerAt decided k) j e → e ≡ c)
       → ClosedCorner ways decided j c ok ways′ decided′
       → CarriedThere P ways decided k j ok ways′ decided′
   carried-closed c ok ways′ decided′ was-open conflict only closed =
@@ -239,7 +239,7 @@ module _ (P : Problem) (ways decided : List ℕ) (k j : ℕ) (settled : Settled 
       carried left =
           record {
             closes = closes;
-            apart = λ e h clash. other e h (only e clash);
+            apart = λ e h conflict. other e h (only e (closes e h) conflict);
             keeps = keeps;
             stays-decided = λ d. absurd (undecided left d);
             stays-open = λ d. absurd (undecided left d);
@@ -258,8 +258,8 @@ module _ (xs ys : List ℕ) (side : HalfUnits) (ways decided : List ℕ) (k c j 
   carried-meeting ok ways′ decided′ is-open meets closed n =
       carried-closed (labels (side .0) n xs ys) ways decided k j (may .settled) c ok ways′ decided′
       (row-at ways j c (may .corner) ∙ is-open)
-      (rw (← may .is-decided) (record { same = refl; meets = meets }))
-      (λ e clash. sym (clash .same) ∙ sym (may .is-decided))
+      (rw (← may .is-decided) meets)
+      (rw (← may .is-decided) (may .only-equal .equal))
       closed
 
   -- Its corner c is not open, or does not meet the label of site k.
@@ -267,9 +267,10 @@ module _ (xs ys : List ℕ) (side : HalfUnits) (ways decided : List ℕ) (k c j 
       → (n : ℕ) → CarriedThere (labels (side .0) n xs ys) ways decided k j true ways decided
   carried-apart apart n =
       carried-same (labels (side .0) n xs ys) ways decided k j (may .settled) (may .sizes)
-      (λ e is-open clash.
-      let same : e ≡ c = sym (clash .same) ∙ sym (may .is-decided) in
-      apart (sym (row-at ways j c (may .corner)) ∙ rw same at is-open) (rw (← may .is-decided, same) at (clash .meets)))
+      (rw (← may .is-decided)
+      (λ e is-open meets.
+      let same : e ≡ c = may .only-equal .equal e is-open meets in
+      apart (sym (row-at ways j c (may .corner)) ∙ rw same at is-open) (rw same at meets)))
 
 -- What carrying out does to site j is of its row and decision, and of the decision of site k.
 carried-moved : {P : Problem} {op op₁ op′ op₁′ : ℕ → ℕ → ℕ} {dec dec₁ dec′ dec₁′ : ℕ → ℕ} {k j : ℕ}
@@ -399,4 +400,5 @@ may-carry-to {n} {xs} {ys} {k} {j} may below listed different =
       corner = may .corner;
       is-decided = sym (below .own .decision);
       settled = record { settled = rw (same .row, same .decision) (may .settled .all-settled j listed .settled) };
+      only-equal = record { equal = rw (same .row) (may .only-equal j listed different .equal) };
     }

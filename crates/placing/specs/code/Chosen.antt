@@ -1,6 +1,6 @@
 -- What choosing hands back, as document 01 has it: the first good choice, or none.
 -- Assumes nothing.
-use mathlib.Core.Path.{_≡_, refl, sym, ap, ap₂, _∙_}
+use mathlib.Core.Path.{_≡_, refl, sym, _∙_}
 use mathlib.Core.Bool.{Bool, true, false}
 use mathlib.Core.List.{List}
 use mathlib.Core.Logic.{_⊎_, inl, inr}
@@ -11,14 +11,13 @@ use lib.ListN.{length, take}
 use lib.Seq.{length-take-le, getD-take}
 use Rattle.placing.specs.declared.choice.Chosen.{Chosen}
 use Rattle.placing.specs.rules.Units.{mostSites}
-use Rattle.placing.specs.rules.Choice.{cornerAt, Good, First, Before}
+use Rattle.placing.specs.rules.Choice.{cornerAt, Good, First}
 use Rattle.placing.specs.rules.Answer.{firstGood, first-found, none-found}
 use Rattle.placing.specs.code.Sites.{sitesOf}
-use Rattle.placing.specs.search.Problem.{Solution}
 use Rattle.placing.specs.search.State.{Walked, Greater}
 use Rattle.placing.specs.search.Walk.{walk-ends, walk-first}
 use Rattle.placing.specs.search.Decided.{SameOrGreater, same-or-greater-not-before}
-use Rattle.placing.specs.search.Labels.{labels, good-solution, solution-good}
+use Rattle.placing.specs.code.Labels.{labels, good-solution, solution-good}
 use Rattle.placing.specs.code.Ways.{rowOf, WalkedTo}
 
 abbrev pub whereYes : Bool → List ℕ → Option (List ℕ)

@@ -19,7 +19,7 @@ use Rattle.placing.specs.rules.Choice.{cornerAt}
 use Rattle.placing.specs.code.Sites.{sitesOf}
 use Rattle.placing.specs.code.Crowding.{reachOf, reachesAt, ReachIs, CrowdingIs}
 use Rattle.placing.specs.search.State.{Fresh}
-use Rattle.placing.specs.search.Labels.{labels}
+use Rattle.placing.specs.code.Labels.{labels}
 use Rattle.placing.specs.code.Ways.{rowAt, rowOf, Sizes}
 
 -- The byte of a corner with this reach: 1 where the doubled side is within it.

@@ -9,12 +9,15 @@ use Prim.Native.Nat.{ℕ, _≤_, _<_}
 use native.Mathlib.Omega.{arith}
 use lib.ListN.{length, set, length-set}
 use lib.Seq.{getD-set-same, getD-set-other}
-use Rattle.placing.specs.rules.Corner.{Corner}
+use Rattle.placing.specs.declared.units.HalfUnits.{HalfUnits}
 use Rattle.placing.specs.rules.Choice.{cornerAt}
 use Rattle.placing.specs.search.Problem.{Problem}
 use Rattle.placing.specs.search.State.{Underway, Closed, Onward, Took}
 use Rattle.placing.specs.search.Trial.{trial-begins, trial-onward-start, carried-underway, carried-onward, stuck-refused, trial-closed}
 use Rattle.placing.specs.code.Ways.{rowOf, Sizes, AllSettled, TakenCorner, CarriedOut, FirstWaiting, Kept, Marked, CarriedOn, Tried}
+use Rattle.placing.specs.code.Sites.{Held}
+use Rattle.placing.specs.code.Labels.{labels, meet-equal}
+use Rattle.placing.specs.code.Asks.{MayCarryOut}
 use Rattle.placing.specs.code.Marks.{kept-same, kept-set}
 
 -- Some decisions have been carried out since the state ways₀, decided₀: the marked ones.
@@ -41,7 +44,7 @@ carrying-starts sizes room underway =
 module _ {P : Problem} {ways₀ decided₀ marks₀ ways decided marks : List ℕ}
     (so-far : CarryingOn P ways₀ decided₀ marks₀ ways decided marks) where
   -- The decided corner of every decided site alone is open.
-  pub carrying-settled : AllSettled (P .n) ways decided
+  carrying-settled : AllSettled (P .n) ways decided
   carrying-settled =
       record {
         all-settled = λ j h. record {
@@ -63,11 +66,10 @@ module _ {P : Problem} {ways₀ decided₀ marks₀ ways decided marks : List �
       }
 
   module _ {k : ℕ} (listed : k < P .n) (is-decided : cornerAt decided k ≢ 0) where
-    -- What is decided is a corner.
-    pub carrying-corner : Corner (cornerAt decided k)
-    carrying-corner =
-        P .corner k (cornerAt decided k)
-        (so-far .underway .candidate k (cornerAt decided k) listed (so-far .underway .decided-open k listed is-decided))
+    -- What is decided is a candidate.
+    carrying-candidate : P .Candidate k (cornerAt decided k)
+    carrying-candidate =
+        so-far .underway .candidate k (cornerAt decided k) listed (so-far .underway .decided-open k listed is-decided)
 
     module _ {ok : Bool} {ways′ decided′ : List ℕ} (out : CarriedOut P ways decided k ok ways′ decided′) where
       -- After the decision of site k is carried out and k is marked, the trial goes on ..
@@ -94,6 +96,23 @@ module _ {P : Problem} {ways₀ decided₀ marks₀ ways decided marks : List �
             refused = λ e op dec i c h some onward.
                 stuck-refused (so-far .underway) listed is-decided (out .stuck failed) (so-far .onward op dec i c h some onward);
           }
+
+-- A decision may be carried out: open corners are uncrowded, so their labels meet at equal corners only.
+pub may-carry-out : {n : ℕ} {xs ys : List ℕ} {side : HalfUnits} {ways₀ decided₀ marks₀ ways decided marks : List ℕ} {k : ℕ}
+    → Held n xs ys side → CarryingOn (labels (side .0) n xs ys) ways₀ decided₀ marks₀ ways decided marks → k < n
+    → cornerAt decided k ≢ 0 → MayCarryOut n xs ys side ways decided k
+may-carry-out {n} {xs} {ys} {side} held so-far listed is-decided =
+    let own = carrying-candidate so-far listed is-decided in
+    record {
+      held = held;
+      sizes = so-far .sizes;
+      listed = listed;
+      corner = own .corner;
+      settled = carrying-settled so-far;
+      only-equal = λ j other different. record {
+        equal = λ e is-open. meet-equal (side .0) n xs ys listed other different own (so-far .underway .candidate j e other is-open);
+      };
+    }
 
 module _ {P : Problem} {ways decided ways′ decided′ marks : List ℕ} {i c : ℕ}
     (closed : Closed P (rowOf ways) (cornerAt decided)) (listed : i < P .n) (undecided : cornerAt decided i ≡ 0)

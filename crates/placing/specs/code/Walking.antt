@@ -10,7 +10,7 @@ use native.Mathlib.Decide.{decLe}
 use native.Mathlib.Omega.{arith}
 use lib.ListN.{getD}
 use Rattle.placing.specs.rules.Choice.{cornerAt}
-use Rattle.placing.specs.search.Problem.{Problem, Solution}
+use Rattle.placing.specs.search.Problem.{Problem}
 use Rattle.placing.specs.search.State.{Refused, Walked}
 use Rattle.placing.specs.search.Walk.{refused-closed, walk-takes, walk-stuck}
 use Rattle.placing.specs.code.Ways.{rowOf, Tried, WalkedTo, Sizes}

@@ -15,7 +15,7 @@ use Rattle.placing.specs.rules.Units.{mostSites}
 use Rattle.placing.specs.rules.Corner.{Corner}
 use Rattle.placing.specs.rules.Choice.{cornerAt}
 use Rattle.placing.specs.search.Problem.{Problem, Solution}
-use Rattle.placing.specs.search.State.{TwoOpen, CarriedTo, Carried, Stuck, Closed, Onward, Refused, Walked}
+use Rattle.placing.specs.search.State.{CarriedTo, Carried, Stuck, Closed, Onward, Refused, Walked}
 
 -- Of four bytes, the one for corner c; 0 where c is no corner.
 abbrev pub rowAt : ℕ → ℕ → ℕ → ℕ → ℕ → ℕ

@@ -3,7 +3,7 @@
 use native.Mathlib.Omega.{arith}
 use Prim.Native.Nat.{_≤_, _-_}
 use borrow.Author.Needs.{needs}
-use Rattle.placing.specs.search.Labels.{labels}
+use Rattle.placing.specs.code.Labels.{labels}
 use Rattle.placing.specs.code.Ways.{Kept}
 use Rattle.placing.specs.code.Marks.{kept-same, kept-twice}
 use Rattle.placing.specs.code.Walking.{RefusedUpTo, refused-none, refused-more, takes-corner, takes-none}

@@ -8,7 +8,7 @@ use borrow.Author.Tests.{not-true, not-false}
 use Rattle.placing.specs.rules.Choice.{cornerAt}
 use Rattle.placing.specs.search.State.{Walked}
 use Rattle.placing.specs.search.Walk.{walk-decided-add-one}
-use Rattle.placing.specs.search.Labels.{labels}
+use Rattle.placing.specs.code.Labels.{labels}
 use Rattle.placing.specs.code.Ways.{Kept, Sizes, rowOf}
 use Rattle.placing.specs.code.Marks.{kept-same, kept-twice}
 use Rattle.placing.specs.code.Walking.{walk-over, walked-all}

@@ -4,10 +4,10 @@ use Prim.Native.Nat.{_<_}
 use native.Mathlib.Nat.{lt-of-lt-of-le}
 use native.Mathlib.Omega.{arith}
 use borrow.Author.Tests.{not-true, not-false}
-use Rattle.placing.specs.search.Labels.{labels}
+use Rattle.placing.specs.code.Labels.{labels}
 use Rattle.placing.specs.code.Ways.{Waits}
 use Rattle.placing.specs.code.Marks.{unmarkedBelow, mark-fewer, kept-set}
-use Rattle.placing.specs.code.Onward.{CarryingOn, carrying-starts, carrying-settled, carrying-corner, carrying-ends, carrying-on, carrying-stuck}
+use Rattle.placing.specs.code.Onward.{CarryingOn, carrying-starts, carrying-ends, carrying-on, carrying-stuck, may-carry-out}
 use Rattle.placing.proofs.trial.carry_on.Statement.{statement}
 use Rattle.placing.proofs.trial.carry_on.Tie as tie
 
@@ -52,13 +52,7 @@ mark-and-carry-requires c κs =
     let turn = c .before .before .before in
     let at-loop = turn .before .before .before .before in
     let so-far = at-loop .loop .inv in (
-      record {
-        held = at-loop .before .before .pre .held;
-        sizes = so-far .sizes;
-        listed = found turn;
-        corner = carrying-corner so-far (found turn) (found-waits turn .is-decided);
-        settled = carrying-settled so-far;
-      },
+      may-carry-out (at-loop .before .before .pre .held) so-far (found turn) (found-waits turn .is-decided),
       so-far .room,
     )
 

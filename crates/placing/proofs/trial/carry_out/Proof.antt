@@ -4,7 +4,7 @@ use Prim.Native.Nat.{_≤_, _-_}
 use mathlib.Core.Logic.{⊎-elim}
 use native.Mathlib.Omega.{arith}
 use borrow.Author.Tests.{not-true, not-false}
-use Rattle.placing.specs.search.Labels.{labels}
+use Rattle.placing.specs.code.Labels.{labels}
 use Rattle.placing.specs.code.Carry.{CarriedBelow, carried-start, carried-past, carried-more, carried-all, carried-stuck, may-carry-to}
 use Rattle.placing.proofs.trial.carry_out.Statement.{statement}
 use Rattle.placing.proofs.trial.carry_out.Tie as tie

@@ -3,7 +3,7 @@
 --     copied-more     a store of s's element at n, below both lengths, makes it the same at n + 1
 --     copied-at       below n it has s's elements
 -- Assumes nothing.
-use mathlib.Core.Path.{_≡_, refl, sym, ap, subst, _∙_}
+use mathlib.Core.Path.{_≡_, refl, sym, ap, _∙_}
 use mathlib.Core.List.{List, [], _∷_, _++_}
 use Prim.Native.Nat.{ℕ, zero, suc, _+_, _-_, _≤_, _<_}
 use native.Mathlib.Nat.{not-suc-le-zero, le-of-suc-le-suc, zero-sub, suc-sub-suc, sub-zero}

@@ -1,9 +1,9 @@
 -- The greatest side, between one that has a good choice and one that has none.
 -- Assumes nothing.
-use mathlib.Core.Path.{_≡_, refl, sym, ap, _∙_, subst}
+use mathlib.Core.Path.{_≡_, refl, sym, ap, _∙_}
 use mathlib.Core.Bool.{Bool, true, false}
-use mathlib.Core.List.{List, [], _∷_, _++_}
-use mathlib.Core.Option.{Option, some, none}
+use mathlib.Core.List.{List, _∷_, _++_}
+use mathlib.Core.Option.{none}
 use Prim.Native.Nat.{ℕ, zero, suc, _+_, _-_, _≤_, _<_, zero-le, suc-le-suc}
 use native.Mathlib.Nat.{le-of-suc-le-suc}
 use native.Mathlib.Omega.{arith}
@@ -16,9 +16,9 @@ use Rattle.placing.specs.declared.units.HalfUnits.{HalfUnits}
 use Rattle.placing.specs.declared.units.Place.{Place}
 use Rattle.placing.specs.declared.units.Side.{Side}
 use Rattle.placing.specs.declared.units.Side.the-variants.{Number, Free}
-use Rattle.placing.specs.rules.Units.{mostSites, Distinct, freeSide, greatestSide}
+use Rattle.placing.specs.rules.Units.{mostSites, Distinct, freeSide}
 use Rattle.placing.specs.rules.Choice.{cornerAt, Good, First, Before, lower, later, good-one-exists}
-use Rattle.placing.specs.rules.Answer.{Answer, numbered, unbounded, answerOf, firstGood, firstGood-some, firstGood-none, answer-found, answer-free}
+use Rattle.placing.specs.rules.Answer.{answerOf, firstGood, firstGood-some, firstGood-none, answer-found, answer-free}
 use Rattle.placing.specs.code.Sites.{Held, sitesOf}
 use Rattle.placing.specs.code.Crowding.{judgedFree, CrowdingIs}
 use Rattle.placing.specs.code.Chosen.{whereYes, choiceIn}

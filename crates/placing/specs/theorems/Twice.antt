@@ -4,7 +4,6 @@
 use mathlib.Core.Path.{sym}
 use mathlib.Core.Bool.{Bool}
 use mathlib.Core.List.{List}
-use mathlib.Core.Logic.{_≢_}
 use Prim.Native.Nat.{ℕ, suc, _-_, _*_, _≤_, _<_}
 use native.Mathlib.Omega.{arith}
 use native.Mathlib.Nat.{mul-le-mul-right}
@@ -12,7 +11,7 @@ use lib.ListN.{length}
 use Rattle.placing.specs.declared.units.Place.{Place}
 use Rattle.placing.specs.declared.corner.Direction.{Direction}
 use Rattle.placing.specs.declared.corner.Direction.the-variants.{Up, Down}
-use Rattle.placing.specs.rules.Units.{dist, siteAt, xOf, yOf}
+use Rattle.placing.specs.rules.Units.{dist, xOf, yOf}
 use Rattle.placing.specs.rules.Corner.{alongX, alongY}
 use Rattle.placing.specs.rules.Meet.{Overlap, Meet, meet-larger}
 use Rattle.placing.specs.rules.Crowd.{Ahead, DoubledCovers}

@@ -1,5 +1,6 @@
 -- The search for the first solution, freed of geometry.
 pub mod Problem
+pub mod Rows
 pub mod State
 pub mod Extend
 pub mod Trial

@@ -11,9 +11,10 @@ ghost use Prim.Native.Nat.{ℕ, _≤_, _<_};
 ghost use lib.ListN.{length, set};
 ghost use Rattle.placing.specs.rules.Units.{mostSites};
 ghost use Rattle.placing.specs.rules.Corner.{Corner};
+ghost use Rattle.placing.specs.search.Rows.{rowAt};
 ghost use Rattle.placing.specs.code.Labels.{labels};
 ghost use Rattle.placing.specs.rules.Decides.{Decides};
-ghost use Rattle.placing.specs.code.Ways.{rowAt, oneOrMore, LeftIs, Sizes, TakenCorner, ClosedCorner, CarriedThere, CarriedOut, Waits, FirstWaiting, Kept, markOf, Marked, CarriedOn, Tried};
+ghost use Rattle.placing.specs.code.Ways.{oneOrMore, LeftIs, Sizes, TakenCorner, ClosedCorner, CarriedThere, CarriedOut, Waits, FirstWaiting, Kept, markOf, Marked, CarriedOn, Tried};
 ghost use Rattle.placing.specs.code.Asks.{MayCarryTo, MayCarryOut, MayCarryOn, MayTry};
 
 // Which corners of a site are open: nothing, one, or more.

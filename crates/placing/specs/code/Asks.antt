@@ -12,9 +12,10 @@ use Rattle.placing.specs.rules.Corner.{Corner}
 use Rattle.placing.specs.rules.Choice.{cornerAt}
 use Rattle.placing.specs.code.Sites.{Held, HasPlace, sitesOf}
 use Rattle.placing.specs.code.Crowding.{CrowdingIs}
+use Rattle.placing.specs.search.Rows.{rowOf}
 use Rattle.placing.specs.search.State.{Underway, Closed, Walked}
 use Rattle.placing.specs.code.Labels.{MeetAt, labels}
-use Rattle.placing.specs.code.Ways.{rowOf, Sizes, Settled, AllSettled}
+use Rattle.placing.specs.code.Ways.{Sizes, Settled, AllSettled}
 
 -- Of the open corners of site j only c has a label that meets the one at corner c of site k.
 pub record OnlyEqual (xs ys : List ℕ) (side : HalfUnits) (ways : List ℕ) (k c j : ℕ) : Type 0 where
@@ -46,7 +47,7 @@ pub record MayCarryOn (n : ℕ) (xs ys : List ℕ) (side : HalfUnits) (ways deci
   pub held : Held n xs ys side
   pub sizes : Sizes ways decided
   pub room : n ≤ length marks
-  pub underway : Underway (labels (side .0) n xs ys) (rowOf ways) (cornerAt decided) (cornerAt marks)
+  pub underway : Underway (labels (side .0) n xs ys) ways decided marks
 
 -- Trying corner c of site i.
 pub record MayTry (n : ℕ) (xs ys : List ℕ) (side : HalfUnits) (ways decided marks : List ℕ) (i c : ℕ) : Type 0 where
@@ -55,7 +56,7 @@ pub record MayTry (n : ℕ) (xs ys : List ℕ) (side : HalfUnits) (ways decided 
   pub room : n ≤ length marks
   pub listed : i < n
   pub corner : Corner c
-  pub closed : Closed (labels (side .0) n xs ys) (rowOf ways) (cornerAt decided)
+  pub closed : Closed (labels (side .0) n xs ys) ways decided
   pub undecided : cornerAt decided i ≡ 0
   pub is-open : rowOf ways i c ≡ 1
 
@@ -64,7 +65,7 @@ pub record MayWalk (n : ℕ) (xs ys : List ℕ) (side : HalfUnits) (ways decided
   pub held : Held n xs ys side
   pub sizes : Sizes ways decided
   pub room : n ≤ length marks
-  pub walked : Walked (labels (side .0) n xs ys) i (rowOf ways) (cornerAt decided)
+  pub walked : Walked (labels (side .0) n xs ys) i ways decided
 
 -- Deciding site i, to which the walk has come.
 pub record MayDecide (n : ℕ) (xs ys : List ℕ) (side : HalfUnits) (ways decided marks : List ℕ) (i : ℕ) : Type 0 where

@@ -16,26 +16,11 @@ use Rattle.placing.specs.rules.Meet.{Meet}
 use Rattle.placing.specs.code.Sites.{placeAt, held-place}
 use Rattle.placing.specs.rules.Choice.{cornerAt}
 use Rattle.placing.specs.search.Problem.{Problem}
+use Rattle.placing.specs.search.Rows.{rowOf, row-zero, row-at, row-written, row-kept, row-elsewhere}
 use Rattle.placing.specs.search.State.{TwoOpen, CarriedTo}
 use Rattle.placing.specs.code.Labels.{labels}
 use Rattle.placing.specs.code.Asks.{MayCarryTo, MayCarryOut}
-use Rattle.placing.specs.code.Ways.{
-  rowOf,
-  row-zero,
-  row-at,
-  row-written,
-  row-kept,
-  row-elsewhere,
-  Sizes,
-  Lone,
-  NoneOpen,
-  SomeOpen,
-  TakenCorner,
-  ClosedCorner,
-  Settled,
-  CarriedThere,
-  CarriedOut,
-}
+use Rattle.placing.specs.code.Ways.{Sizes, Lone, NoneOpen, SomeOpen, TakenCorner, ClosedCorner, Settled, CarriedThere, CarriedOut}
 
 -- The bytes with corner c of site j written as v.
 abbrev written : List ℕ → ℕ → ℕ → ℕ → List ℕ
@@ -224,7 +209,7 @@ module _ (P : Problem) (ways decided : List ℕ) (k j : ℕ) (settled : Settled 
       decides (inl lone) free taken = lone
       decides (inr some) free taken = absurd (taken (some .1 ∙ free))
 
-      two-left : Left′ → cornerAt decided′ j ≡ 0 → TwoOpen (rowOf ways′) j
+      two-left : Left′ → cornerAt decided′ j ≡ 0 → TwoOpen ways′ j
       two-left (inl lone) free = absurd (omega (arith, row-zero ways′ j, rw free at (lone .is-open)))
       two-left (inr some) free =
           record {
@@ -235,7 +220,7 @@ module _ (P : Problem) (ways decided : List ℕ) (k j : ℕ) (settled : Settled 
             two-open = some .0 .two-open;
           }
 
-      carried : Left′ → CarriedTo P (rowOf ways) (cornerAt decided) k j (rowOf ways′) (cornerAt decided′)
+      carried : Left′ → CarriedTo P ways decided k j ways′ decided′
       carried left =
           record {
             closes = closes;
@@ -273,27 +258,27 @@ module _ (xs ys : List ℕ) (side : HalfUnits) (ways decided : List ℕ) (k c j 
       apart (sym (row-at ways j c (may .corner)) ∙ rw same at is-open) (rw same at meets)))
 
 -- What carrying out does to site j is of its row and decision, and of the decision of site k.
-carried-moved : {P : Problem} {op op₁ op′ op₁′ : ℕ → ℕ → ℕ} {dec dec₁ dec′ dec₁′ : ℕ → ℕ} {k j : ℕ}
-    → ((e : ℕ) → op j e ≡ op₁ j e) → dec j ≡ dec₁ j → dec k ≡ dec₁ k → ((e : ℕ) → op′ j e ≡ op₁′ j e) → dec′ j ≡ dec₁′ j
-    → CarriedTo P op dec k j op′ dec′
-    → CarriedTo P op₁ dec₁ k j op₁′ dec₁′
+carried-moved : {P : Problem} {ways ways₁ ways′ ways₁′ decided decided₁ decided′ decided₁′ : List ℕ} {k j : ℕ}
+    → rowOf ways j ≡ rowOf ways₁ j → cornerAt decided j ≡ cornerAt decided₁ j → cornerAt decided k ≡ cornerAt decided₁ k
+    → rowOf ways′ j ≡ rowOf ways₁′ j → cornerAt decided′ j ≡ cornerAt decided₁′ j → CarriedTo P ways decided k j ways′ decided′
+    → CarriedTo P ways₁ decided₁ k j ways₁′ decided₁′
 carried-moved rows decision own rows′ decision′ carried =
     record {
-      closes = simp (rows, rows′) at (carried .closes);
-      apart = simp (own, rows′) at (carried .apart);
-      keeps = simp (rows, own, rows′) at (carried .keeps);
-      stays-decided = simp (decision, decision′) at (carried .stays-decided);
-      stays-open = simp (decision, rows′) at (carried .stays-open);
-      decides-open = simp (decision, decision′, rows′) at (carried .decides-open);
-      decides-alone = simp (decision, decision′, rows′) at (carried .decides-alone);
+      closes = rw (rows, rows′) at (carried .closes);
+      apart = rw (own, rows′) at (carried .apart);
+      keeps = rw (rows, own, rows′) at (carried .keeps);
+      stays-decided = rw (decision, decision′) at (carried .stays-decided);
+      stays-open = rw (decision, rows′) at (carried .stays-open);
+      decides-open = rw (decision, decision′, rows′) at (carried .decides-open);
+      decides-alone = rw (decision, decision′, rows′) at (carried .decides-alone);
       two-left = λ e free was-open now-shut.
-          let two = carried .two-left e (decision′ ∙ free) (rows e ∙ was-open) (λ h. now-shut (sym (rows′ e) ∙ h)) in
+          let two = carried .two-left e (decision′ ∙ free) (rw rows was-open) (λ h. now-shut (rw rows′ at h)) in
           record {
             one = two .one;
             two = two .two;
             differ = two .differ;
-            one-open = sym (rows′ (two .one)) ∙ two .one-open;
-            two-open = sym (rows′ (two .two)) ∙ two .two-open;
+            one-open = rw rows′ at (two .one-open);
+            two-open = rw rows′ at (two .two-open);
           };
     }
 
@@ -305,7 +290,7 @@ pub record SameSite (ways decided ways′ decided′ : List ℕ) (i : ℕ) : Typ
 -- The decision of site k was carried to the other sites below j; the sites from j on, and k, are as they were.
 pub record CarriedBelow (P : Problem) (ways₀ decided₀ : List ℕ) (k j : ℕ) (ways decided : List ℕ) : Type 0 where
   pub sizes : Sizes ways decided
-  pub carried : (i : ℕ) → i < j → i ≢ k → CarriedTo P (rowOf ways₀) (cornerAt decided₀) k i (rowOf ways) (cornerAt decided)
+  pub carried : (i : ℕ) → i < j → i ≢ k → CarriedTo P ways₀ decided₀ k i ways decided
   pub later : (i : ℕ) → j ≤ i → SameSite ways₀ decided₀ ways decided i
   pub own : SameSite ways₀ decided₀ ways decided k
 
@@ -358,14 +343,14 @@ module _ {P : Problem} {ways₀ decided₀ : List ℕ} {k j : ℕ} {ways decided
             record { row = there .elsewhere i other ∙ same .row; decision = there .decided-elsewhere i other ∙ same .decision }
 
         from : (i : ℕ) → i < j + 1 → i ≢ k → Dec (i ≡ j)
-            → CarriedTo P (rowOf ways₀) (cornerAt decided₀) k i (rowOf ways′) (cornerAt decided′)
+            → CarriedTo P ways₀ decided₀ k i ways′ decided′
         from i h other (yes p) =
             let same = below .later j (omega arith) in
             rw p
-            (carried-moved (λ e. ap (λ r. r e) (same .row)) (same .decision) (below .own .decision) (λ e. refl) refl
+            (carried-moved (same .row) (same .decision) (below .own .decision) refl refl
             (there .carried yes-ok))
         from i h other (no d) =
-            carried-moved (λ e. refl) refl refl (λ e. ap (λ r. r e) (sym (there .elsewhere i d)))
+            carried-moved refl refl refl (sym (there .elsewhere i d))
             (sym (there .decided-elsewhere i d))
             (below .carried i (omega arith) other)
 

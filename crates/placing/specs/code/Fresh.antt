@@ -15,12 +15,12 @@ use Rattle.placing.specs.declared.units.Place.{Place}
 use Rattle.placing.specs.rules.Units.{mostSites, freeSide, doubled}
 use Rattle.placing.specs.rules.Corner.{Corner}
 use Rattle.placing.specs.rules.Crowd.{Crowded}
-use Rattle.placing.specs.rules.Choice.{cornerAt}
 use Rattle.placing.specs.code.Sites.{sitesOf}
 use Rattle.placing.specs.code.Crowding.{reachOf, reachesAt, ReachIs, CrowdingIs}
+use Rattle.placing.specs.search.Rows.{rowAt, rowOf}
 use Rattle.placing.specs.search.State.{Fresh}
 use Rattle.placing.specs.code.Labels.{labels}
-use Rattle.placing.specs.code.Ways.{rowAt, rowOf, Sizes}
+use Rattle.placing.specs.code.Ways.{Sizes}
 
 -- The byte of a corner with this reach: 1 where the doubled side is within it.
 pub record OpenByte (reach side byte : ℕ) : Type 0 where
@@ -42,7 +42,7 @@ pub record OpenedBelow (crowding : Crowding) (side k : ℕ) (ways : List ℕ) : 
 pub record FreshState (crowding : Crowding) (n : ℕ) (side : HalfUnits) (ways decided : List ℕ) : Type 0 where
   pub sizes : Sizes ways decided
   pub fresh : (xs ys : List ℕ) → side .0 ≤ freeSide → CrowdingIs (sitesOf n xs ys) n crowding
-      → Fresh (labels (side .0) n xs ys) (rowOf ways) (cornerAt decided)
+      → Fresh (labels (side .0) n xs ys) ways decided
 
 -- Only a corner has a byte that is 1, of four ..
 row-corner : (a b c d e : ℕ) → rowAt a b c d e ≡ 1 → Corner e

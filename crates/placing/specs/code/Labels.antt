@@ -59,9 +59,10 @@ labels h n xs ys =
     }
 
 -- A good choice is a solution.
-pub good-solution : (h n : ℕ) (xs ys cs : List ℕ) → Good h (sitesOf n xs ys) cs → Solution (labels h n xs ys) (cornerAt cs)
+pub good-solution : (h n : ℕ) (xs ys cs : List ℕ) → Good h (sitesOf n xs ys) cs → Solution (labels h n xs ys) cs
 good-solution h n xs ys cs good =
     record {
+      one-each = good .corners .one-each ∙ length-sites n xs ys;
       candidate = λ i listed.
           let there : i < length (sitesOf n xs ys) = rw length-sites listed in
           record { corner = good .corners .corner i there; uncrowded = good .uncrowded i there };
@@ -71,10 +72,10 @@ good-solution h n xs ys cs good =
     }
 
 -- A solution is a good choice.
-pub solution-good : (h n : ℕ) (xs ys cs : List ℕ) → length cs ≡ n → Solution (labels h n xs ys) (cornerAt cs) → Good h (sitesOf n xs ys) cs
-solution-good h n xs ys cs count solution =
+pub solution-good : (h n : ℕ) (xs ys cs : List ℕ) → Solution (labels h n xs ys) cs → Good h (sitesOf n xs ys) cs
+solution-good h n xs ys cs solution =
     record {
-      corners = record { one-each = count ∙ sym (length-sites n xs ys); corner = λ i there. candidate i there .corner };
+      corners = record { one-each = solution .one-each ∙ sym (length-sites n xs ys); corner = λ i there. candidate i there .corner };
       uncrowded = λ i there. candidate i there .uncrowded;
       apart = λ i j there other different meets.
           let listed : i < n = rw length-sites at there in
@@ -91,5 +92,5 @@ pub meet-equal : (h n : ℕ) (xs ys : List ℕ) {k j c e : ℕ} → k < n → j 
     → Uncrowded h (sitesOf n xs ys) k c → Uncrowded h (sitesOf n xs ys) j e → MeetAt h xs ys k c j e → e ≡ c
 meet-equal h n xs ys {k} {j} listed other different own beside meets =
     sym
-    (same-corner h (sitesOf n xs ys) (rw length-sites listed) (rw length-sites other) (Ne·symm different) (own .corner) (beside .corner)
-    (own .uncrowded) (beside .uncrowded) (rw (site-at n xs ys k listed, site-at n xs ys j other) meets))
+    (same-corner h (sitesOf n xs ys) (rw length-sites listed) (rw length-sites other) (Ne·symm different)
+    (own .corner) (beside .corner) (own .uncrowded) (beside .uncrowded) (rw (site-at n xs ys k listed, site-at n xs ys j other) meets))

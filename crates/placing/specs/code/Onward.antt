@@ -12,9 +12,10 @@ use lib.Seq.{getD-set-same, getD-set-other}
 use Rattle.placing.specs.declared.units.HalfUnits.{HalfUnits}
 use Rattle.placing.specs.rules.Choice.{cornerAt}
 use Rattle.placing.specs.search.Problem.{Problem}
+use Rattle.placing.specs.search.Rows.{rowOf}
 use Rattle.placing.specs.search.State.{Underway, Closed, Onward, Took}
 use Rattle.placing.specs.search.Trial.{trial-begins, trial-onward-start, carried-underway, carried-onward, stuck-refused, trial-closed}
-use Rattle.placing.specs.code.Ways.{rowOf, Sizes, AllSettled, TakenCorner, CarriedOut, FirstWaiting, Kept, Marked, CarriedOn, Tried}
+use Rattle.placing.specs.code.Ways.{Sizes, AllSettled, TakenCorner, CarriedOut, FirstWaiting, Kept, Marked, CarriedOn, Tried}
 use Rattle.placing.specs.code.Sites.{Held}
 use Rattle.placing.specs.code.Labels.{labels, meet-equal}
 use Rattle.placing.specs.code.Asks.{MayCarryOut}
@@ -25,20 +26,20 @@ pub record CarryingOn (P : Problem) (ways₀ decided₀ marks₀ ways decided ma
   pub sizes : Sizes ways decided
   pub room : P .n ≤ length marks
   pub kept : Kept (P .n) marks₀ marks
-  pub underway : Underway P (rowOf ways) (cornerAt decided) (cornerAt marks)
-  pub onward : (op : ℕ → ℕ → ℕ) (dec : ℕ → ℕ) (i c : ℕ) → i < P .n → c ≢ 0
-      → Onward P op dec i c (rowOf ways₀) (cornerAt decided₀) → Onward P op dec i c (rowOf ways) (cornerAt decided)
+  pub underway : Underway P ways decided marks
+  pub onward : (w d : List ℕ) (i c : ℕ) → i < P .n → c ≢ 0
+      → Onward P w d i c ways₀ decided₀ → Onward P w d i c ways decided
 
 -- Carrying on starts with the state as it is.
 pub carrying-starts : {P : Problem} {ways decided marks : List ℕ} → Sizes ways decided → P .n ≤ length marks
-    → Underway P (rowOf ways) (cornerAt decided) (cornerAt marks) → CarryingOn P ways decided marks ways decided marks
+    → Underway P ways decided marks → CarryingOn P ways decided marks ways decided marks
 carrying-starts sizes room underway =
     record {
       sizes = sizes;
       room = room;
       kept = kept-same;
       underway = underway;
-      onward = λ op dec i c h some onward. onward;
+      onward = λ w d i c h some onward. onward;
     }
 
 module _ {P : Problem} {ways₀ decided₀ marks₀ ways decided marks : List ℕ}
@@ -82,8 +83,8 @@ module _ {P : Problem} {ways₀ decided₀ marks₀ ways decided marks : List �
             kept = kept-set 1 listed (so-far .kept);
             underway = carried-underway (so-far .underway) listed is-decided carried
                 (getD-set-same marks k 1 0 (omega arith)) (λ j h different. getD-set-other marks k j 1 0 different);
-            onward = λ op dec i c h some onward.
-                carried-onward (so-far .underway) listed is-decided carried h some (so-far .onward op dec i c h some onward);
+            onward = λ w d i c h some onward.
+                carried-onward (so-far .underway) listed is-decided carried h some (so-far .onward w d i c h some onward);
           }
 
       -- .. and where a site is left with no corner, it has failed.
@@ -93,8 +94,8 @@ module _ {P : Problem} {ways₀ decided₀ marks₀ ways decided marks : List �
             sizes = out .sizes;
             closed = λ e. absurd (true≢false (sym e));
             onward = λ e. absurd (true≢false (sym e));
-            refused = λ e op dec i c h some onward.
-                stuck-refused (so-far .underway) listed is-decided (out .stuck failed) (so-far .onward op dec i c h some onward);
+            refused = λ e w d i c h some onward.
+                stuck-refused (so-far .underway) listed is-decided (out .stuck failed) (so-far .onward w d i c h some onward);
           }
 
 -- A decision may be carried out: open corners are uncrowded, so their labels meet at equal corners only.
@@ -115,10 +116,10 @@ may-carry-out {n} {xs} {ys} {side} held so-far listed is-decided =
     }
 
 module _ {P : Problem} {ways decided ways′ decided′ marks : List ℕ} {i c : ℕ}
-    (closed : Closed P (rowOf ways) (cornerAt decided)) (listed : i < P .n) (undecided : cornerAt decided i ≡ 0)
+    (closed : Closed P ways decided) (listed : i < P .n) (undecided : cornerAt decided i ≡ 0)
     (is-open : rowOf ways i c ≡ 1) (taken : TakenCorner ways decided i c ways′ decided′) (marked : Marked decided (P .n) marks) where
   -- A trial starts by taking a corner, with the sites decided before marked.
-  took : Took P (rowOf ways) (cornerAt decided) i c (rowOf ways′) (cornerAt decided′) (cornerAt marks)
+  took : Took P ways decided i c ways′ decided′ marks
   took =
       record {
         takes = taken .takes;
@@ -131,7 +132,7 @@ module _ {P : Problem} {ways decided ways′ decided′ marks : List ℕ} {i c :
       }
 
   -- Then it is under way ..
-  pub taken-underway : Underway P (rowOf ways′) (cornerAt decided′) (cornerAt marks)
+  pub taken-underway : Underway P ways′ decided′ marks
   taken-underway = trial-begins closed listed undecided is-open took
 
   -- .. and once it has carried on, the corner has been tried.
@@ -141,12 +142,12 @@ module _ {P : Problem} {ways decided ways′ decided′ marks : List ℕ} {i c :
       record {
         sizes = on .sizes;
         closed = on .closed;
-        onward = λ e. on .onward e (rowOf ways) (cornerAt decided) i c listed some start;
-        refused = λ e. on .refused e (rowOf ways) (cornerAt decided) i c listed some start;
+        onward = λ e. on .onward e ways decided i c listed some start;
+        refused = λ e. on .refused e ways decided i c listed some start;
       }
     where
       some : c ≢ 0
       some = let corner = P .corner i c (closed .candidate i c listed is-open) in omega arith
 
-      start : Onward P (rowOf ways) (cornerAt decided) i c (rowOf ways′) (cornerAt decided′)
+      start : Onward P ways decided i c ways′ decided′
       start = trial-onward-start closed listed undecided is-open took

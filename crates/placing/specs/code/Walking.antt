@@ -11,9 +11,10 @@ use native.Mathlib.Omega.{arith}
 use lib.ListN.{getD}
 use Rattle.placing.specs.rules.Choice.{cornerAt}
 use Rattle.placing.specs.search.Problem.{Problem}
+use Rattle.placing.specs.search.Rows.{rowOf}
 use Rattle.placing.specs.search.State.{Refused, Walked}
 use Rattle.placing.specs.search.Walk.{refused-closed, walk-takes, walk-stuck}
-use Rattle.placing.specs.code.Ways.{rowOf, Tried, WalkedTo, Sizes}
+use Rattle.placing.specs.code.Ways.{Tried, WalkedTo, Sizes}
 
 -- The byte of corner e + 1 of site i.
 pub row-next : (ways : List ℕ) (i e : ℕ) → e < 4 → rowOf ways i (e + 1) ≡ getD ways (4 * i + e) 0
@@ -26,7 +27,7 @@ row-next ways i (suc (suc (suc (suc e)))) h = absurd (omega arith)
 
 -- The corners of site i up to e are refused.
 pub record RefusedUpTo (P : Problem) (ways : List ℕ) (i e : ℕ) : Type 0 where
-  pub refused : (c : ℕ) → c ≤ e → Refused P (rowOf ways) i c
+  pub refused : (c : ℕ) → c ≤ e → Refused P ways i c
 
 -- There is no corner 0.
 pub refused-none : {P : Problem} {i : ℕ} (ways : List ℕ) → i < P .n → RefusedUpTo P ways i 0
@@ -37,10 +38,10 @@ refused-none {P} {i} ways listed =
     closed : rowOf ways i 0 ≡ 1 → ⊥
     closed o = omega arith
 
-pub refused-more : {P : Problem} {ways : List ℕ} {i : ℕ} (e : ℕ) → RefusedUpTo P ways i e → Refused P (rowOf ways) i (e + 1) → RefusedUpTo P ways i (e + 1)
+pub refused-more : {P : Problem} {ways : List ℕ} {i : ℕ} (e : ℕ) → RefusedUpTo P ways i e → Refused P ways i (e + 1) → RefusedUpTo P ways i (e + 1)
 refused-more {P} {ways} {i} e before next = record { refused = λ c h. from c h (decLe c e) }
   where
-    from : (c : ℕ) → c ≤ e + 1 → Dec (c ≤ e) → Refused P (rowOf ways) i c
+    from : (c : ℕ) → c ≤ e + 1 → Dec (c ≤ e) → Refused P ways i c
     from c h (yes k) = before .refused c k
     from c h (no k) = let last : c ≡ e + 1 = omega arith in rw last next
 
@@ -56,7 +57,7 @@ tried-shut {P} {ways} {decided} {i} e sizes listed h shut =
     }
 
 -- The first corner whose trial does not fail is taken.
-pub takes-corner : {P : Problem} {ways decided ways′ decided′ : List ℕ} {i : ℕ} (e : ℕ) {ok : Bool} → Walked P i (rowOf ways) (cornerAt decided)
+pub takes-corner : {P : Problem} {ways decided ways′ decided′ : List ℕ} {i : ℕ} (e : ℕ) {ok : Bool} → Walked P i ways decided
     → i < P .n → cornerAt decided i ≡ 0 → RefusedUpTo P ways i e → Tried P ways decided i (e + 1) ok ways′ decided′ → ok ≡ true
     → WalkedTo P (i + 1) ok ways′ decided′
 takes-corner e walked listed undecided before tried yes-ok =
@@ -68,7 +69,7 @@ takes-corner e walked listed undecided before tried yes-ok =
     }
 
 -- Where every corner is refused there is no solution.
-pub takes-none : {P : Problem} {ways decided : List ℕ} {i e : ℕ} → Sizes ways decided → Walked P i (rowOf ways) (cornerAt decided) → i < P .n
+pub takes-none : {P : Problem} {ways decided : List ℕ} {i e : ℕ} → Sizes ways decided → Walked P i ways decided → i < P .n
     → 4 ≤ e → RefusedUpTo P ways i e → WalkedTo P (i + 1) false ways decided
 takes-none sizes walked listed all before =
     record {
@@ -88,11 +89,11 @@ walk-over n failed walked =
     }
 
 -- A walk past all sites.
-pub walked-all : {P : Problem} {i : ℕ} {ways decided : List ℕ} → i ≡ P .n → Sizes ways decided → Walked P i (rowOf ways) (cornerAt decided)
+pub walked-all : {P : Problem} {i : ℕ} {ways decided : List ℕ} → i ≡ P .n → Sizes ways decided → Walked P i ways decided
     → WalkedTo P (P .n) true ways decided
 walked-all {P} {i} {ways} {decided} end sizes walked =
     record {
       sizes = sizes;
-      walked = λ o. subst (λ (k : ℕ). Walked P k (rowOf ways) (cornerAt decided)) end walked;
+      walked = λ o. subst (λ (k : ℕ). Walked P k ways decided) end walked;
       no-solution = λ o. let z : _≡_ {A = ℕ} 0 1 = cc in absurd (omega arith);
     }

@@ -1,74 +1,20 @@
 -- The state of a search as a trial holds it: 960 bytes, four for each site, 1 where the corner is open, and 240 bytes with the
 -- decided corners, 0 for none. What one step of the code does to them, for the laws of specs/search/Trial and specs/search/Walk to use.
 -- Assumes nothing.
-use mathlib.Core.Path.{_≡_, refl, ap, _∙_, fun-ext}
+use mathlib.Core.Path.{_≡_, refl}
 use mathlib.Core.Bool.{Bool, true, false}
 use mathlib.Core.List.{List}
 use mathlib.Core.Logic.{_≢_, _⊎_}
-use Prim.Native.Nat.{ℕ, zero, suc, _+_, _-_, _*_, _≤_, _<_}
+use Prim.Native.Nat.{ℕ, zero, suc, _*_, _≤_, _<_}
 use native.Mathlib.Omega.{arith}
-use lib.ListN.{length, getD, set, drop}
-use lib.Seq.{getD-set-same, getD-set-other}
+use lib.ListN.{length, getD, drop}
 use Rattle.placing.specs.declared.trial.Left.{Left}
 use Rattle.placing.specs.declared.trial.Left.the-variants.{Nothing, One, More}
 use Rattle.placing.specs.rules.Units.{mostSites}
-use Rattle.placing.specs.rules.Corner.{Corner}
 use Rattle.placing.specs.rules.Choice.{cornerAt}
 use Rattle.placing.specs.search.Problem.{Problem, Solution}
+use Rattle.placing.specs.search.Rows.{rowAt, rowOf}
 use Rattle.placing.specs.search.State.{CarriedTo, Carried, Stuck, Closed, Onward, Refused, Walked}
-
--- Of four bytes, the one for corner c; 0 where c is no corner.
-abbrev pub rowAt : ℕ → ℕ → ℕ → ℕ → ℕ → ℕ
-rowAt a b c d zero = 0
-rowAt a b c d (suc zero) = a
-rowAt a b c d (suc (suc zero)) = b
-rowAt a b c d (suc (suc (suc zero))) = c
-rowAt a b c d (suc (suc (suc (suc zero)))) = d
-rowAt a b c d (suc (suc (suc (suc (suc e))))) = 0
-
--- The four bytes of site i, by corner.
-unfoldable pub rowOf : List ℕ → ℕ → ℕ → ℕ
-rowOf ways i = rowAt (getD ways (4 * i) 0) (getD ways (4 * i + 1) 0) (getD ways (4 * i + 2) 0) (getD ways (4 * i + 3) 0)
-
--- No site has a corner 0.
-pub row-zero : (ways : List ℕ) (i : ℕ) → rowOf ways i 0 ≡ 0
-unfolding rowOf
-row-zero ways i = refl
-
--- Where a corner's byte stands.
-pub row-at : (ways : List ℕ) (i c : ℕ) → Corner c → rowOf ways i c ≡ getD ways (4 * i + (c - 1)) 0
-unfolding rowOf
-row-at ways i zero corner = absurd (omega arith)
-row-at ways i (suc zero) corner = ap (λ n. getD ways n 0) (omega arith)
-row-at ways i (suc (suc zero)) corner = refl
-row-at ways i (suc (suc (suc zero))) corner = refl
-row-at ways i (suc (suc (suc (suc zero)))) corner = refl
-row-at ways i (suc (suc (suc (suc (suc c))))) corner = absurd (omega arith)
-
--- A byte that is written stands at its corner.
-pub row-written : (ways : List ℕ) (i c v : ℕ) → Corner c → 4 * i + (c - 1) < length ways
-    → rowOf (set ways (4 * i + (c - 1)) v) i c ≡ v
-row-written ways i c v corner fits =
-    row-at (set ways (4 * i + (c - 1)) v) i c corner ∙ getD-set-same ways (4 * i + (c - 1)) v 0 fits
-
--- A byte that is written elsewhere leaves a corner as it is.
-row-other : (ways : List ℕ) (n v i e : ℕ) → (Corner e → 4 * i + (e - 1) ≢ n) → rowOf (set ways n v) i e ≡ rowOf ways i e
-unfolding rowOf
-row-other ways n v i zero other = refl
-row-other ways n v i (suc zero) other = getD-set-other ways n (4 * i) v 0 (λ p. other (omega arith) (omega arith))
-row-other ways n v i (suc (suc zero)) other = getD-set-other ways n (4 * i + 1) v 0 (λ p. other (omega arith) p)
-row-other ways n v i (suc (suc (suc zero))) other = getD-set-other ways n (4 * i + 2) v 0 (λ p. other (omega arith) p)
-row-other ways n v i (suc (suc (suc (suc zero)))) other = getD-set-other ways n (4 * i + 3) v 0 (λ p. other (omega arith) p)
-row-other ways n v i (suc (suc (suc (suc (suc e))))) other = refl
-
--- A byte that is written at one corner leaves the site's others as they are.
-pub row-kept : (ways : List ℕ) (i c v e : ℕ) → Corner c → e ≢ c → rowOf (set ways (4 * i + (c - 1)) v) i e ≡ rowOf ways i e
-row-kept ways i c v e corner different = row-other ways (4 * i + (c - 1)) v i e (λ there same. different (omega arith))
-
--- A byte that is written at site i leaves other sites as they are.
-pub row-elsewhere : (ways : List ℕ) (i n v j : ℕ) → 4 * i ≤ n → n ≤ 4 * i + 3 → j ≢ i → rowOf (set ways n v) j ≡ rowOf ways j
-row-elsewhere ways i n v j from to different =
-    fun-ext (λ e. row-other ways n v j e (λ corner same. different (omega arith)))
 
 pub record Sizes (ways decided : List ℕ) : Type 0 where
   pub ways-size : length ways ≡ 4 * mostSites
@@ -160,14 +106,14 @@ pub record CarriedThere (P : Problem) (ways decided : List ℕ) (k j : ℕ) (ok 
   pub sizes : Sizes ways′ decided′
   pub elsewhere : (i : ℕ) → i ≢ j → rowOf ways′ i ≡ rowOf ways i
   pub decided-elsewhere : (i : ℕ) → i ≢ j → cornerAt decided′ i ≡ cornerAt decided i
-  pub carried : ok ≡ true → CarriedTo P (rowOf ways) (cornerAt decided) k j (rowOf ways′) (cornerAt decided′)
+  pub carried : ok ≡ true → CarriedTo P ways decided k j ways′ decided′
   pub stuck : ok ≡ false → (e : ℕ) → rowOf ways j e ≡ 1 → P .Conflict k (cornerAt decided k) j e
 
 -- The decision of site k was carried to every other site, or a site was left with no corner.
 pub record CarriedOut (P : Problem) (ways decided : List ℕ) (k : ℕ) (ok : Bool) (ways′ decided′ : List ℕ) : Type 0 where
   pub sizes : Sizes ways′ decided′
-  pub carried : ok ≡ true → Carried P (rowOf ways) (cornerAt decided) k (rowOf ways′) (cornerAt decided′)
-  pub stuck : ok ≡ false → Stuck P (rowOf ways) (cornerAt decided) k
+  pub carried : ok ≡ true → Carried P ways decided k ways′ decided′
+  pub stuck : ok ≡ false → Stuck P ways decided k
 
 -- Site k waits: it is decided, and that has not been carried out.
 pub record Waits (decided marks : List ℕ) (k : ℕ) : Type 0 where
@@ -198,21 +144,21 @@ pub record Marked (decided : List ℕ) (n : ℕ) (marks : List ℕ) : Type 0 whe
 -- All decisions were carried out, or a site was left with no corner.
 pub record CarriedOn (P : Problem) (ways decided : List ℕ) (ok : Bool) (ways′ decided′ : List ℕ) : Type 0 where
   pub sizes : Sizes ways′ decided′
-  pub closed : ok ≡ true → Closed P (rowOf ways′) (cornerAt decided′)
-  pub onward : ok ≡ true → (op : ℕ → ℕ → ℕ) (dec : ℕ → ℕ) (i c : ℕ) → i < P .n → c ≢ 0
-      → Onward P op dec i c (rowOf ways) (cornerAt decided) → Onward P op dec i c (rowOf ways′) (cornerAt decided′)
-  pub refused : ok ≡ false → (op : ℕ → ℕ → ℕ) (dec : ℕ → ℕ) (i c : ℕ) → i < P .n → c ≢ 0
-      → Onward P op dec i c (rowOf ways) (cornerAt decided) → Refused P op i c
+  pub closed : ok ≡ true → Closed P ways′ decided′
+  pub onward : ok ≡ true → (w d : List ℕ) (i c : ℕ) → i < P .n → c ≢ 0
+      → Onward P w d i c ways decided → Onward P w d i c ways′ decided′
+  pub refused : ok ≡ false → (w d : List ℕ) (i c : ℕ) → i < P .n → c ≢ 0
+      → Onward P w d i c ways decided → Refused P w i c
 
 -- Corner c of site i was tried.
 pub record Tried (P : Problem) (ways decided : List ℕ) (i c : ℕ) (ok : Bool) (ways′ decided′ : List ℕ) : Type 0 where
   pub sizes : Sizes ways′ decided′
-  pub closed : ok ≡ true → Closed P (rowOf ways′) (cornerAt decided′)
-  pub onward : ok ≡ true → Onward P (rowOf ways) (cornerAt decided) i c (rowOf ways′) (cornerAt decided′)
-  pub refused : ok ≡ false → Refused P (rowOf ways) i c
+  pub closed : ok ≡ true → Closed P ways′ decided′
+  pub onward : ok ≡ true → Onward P ways decided i c ways′ decided′
+  pub refused : ok ≡ false → Refused P ways i c
 
 -- The walk went on to site i, or there is no solution.
 pub record WalkedTo (P : Problem) (i : ℕ) (ok : Bool) (ways decided : List ℕ) : Type 0 where
   pub sizes : Sizes ways decided
-  pub walked : ok ≡ true → Walked P i (rowOf ways) (cornerAt decided)
-  pub no-solution : ok ≡ false → (f : ℕ → ℕ) → Solution P f → ⊥
+  pub walked : ok ≡ true → Walked P i ways decided
+  pub no-solution : ok ≡ false → (cs : List ℕ) → Solution P cs → ⊥

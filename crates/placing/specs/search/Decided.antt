@@ -1,46 +1,83 @@
--- The order of solutions that the walk keeps, as the order of lists of corners.
+-- The end of the walk: the decisions are a solution, and none comes before it in the order of lists of corners.
 -- Assumes nothing.
-use mathlib.Core.Path.{_≡_, sym}
+use mathlib.Core.Path.{_≡_, refl, sym, _∙_}
 use mathlib.Core.List.{List, _∷_}
-use mathlib.Core.Logic.{_⊎_, inl, inr}
+use mathlib.Core.Logic.{⊎-elim}
 use Prim.Native.Nat.{ℕ, zero, suc, _≤_, _<_, zero-le, suc-le-suc}
-use native.Mathlib.Nat.{le-of-lt, le-of-eq, lt-irrefl, le-of-suc-le-suc}
+use native.Mathlib.Nat.{le-of-suc-le-suc, not-suc-le-zero}
+use native.Mathlib.Decide.{decLt}
 use native.Mathlib.Omega.{arith}
-use lib.ListN.{length}
+use lib.ListN.{length, take}
+use lib.Seq.{length-take-le, getD-take}
 use Rattle.placing.specs.rules.Choice.{cornerAt, Before, lower, later}
-use Rattle.placing.specs.search.State.{Greater}
+use Rattle.placing.specs.search.Problem.{Problem, Solution}
+use Rattle.placing.specs.search.Rows.{rowOf}
+use Rattle.placing.specs.search.State.{Follows, Greater, Walked}
+use Rattle.placing.specs.search.Walk.{follows-decided}
 
--- The list es is the list cs, or has the greater corner at the first site where they differ.
-abbrev pub SameOrGreater : List ℕ → List ℕ → Type 0
-SameOrGreater cs es =
-    ((m : ℕ) → m < length cs → cornerAt es m ≡ cornerAt cs m) ⊎ Greater (cornerAt cs) (length cs) (cornerAt es)
+-- The same corner at one more site before the others.
+greater-later : {c i : ℕ} {es cs : List ℕ} → Greater es i cs → Greater (c ∷ es) (suc i) (c ∷ cs)
+greater-later {c} {i} {es} {cs} g =
+    record { at = suc (g .at); below = suc-le-suc (g .below); same = same; greater = g .greater }
+  where
+    same : (m : ℕ) → m < suc (g .at) → cornerAt (c ∷ cs) m ≡ cornerAt (c ∷ es) m
+    same zero h = refl
+    same (suc m) h = g .same m (le-of-suc-le-suc h)
 
-module _ (c e : ℕ) (cs es : List ℕ) where
-  -- What is greater is not lower at the first site.
-  greater-head : (at : ℕ) → ((m : ℕ) → m < at → cornerAt (e ∷ es) m ≡ cornerAt (c ∷ cs) m)
-      → cornerAt (c ∷ cs) at < cornerAt (e ∷ es) at → c ≤ e
-  greater-head zero same h = le-of-lt h
-  greater-head (suc a) same h = le-of-eq (sym (same 0 (suc-le-suc zero-le)))
+-- Of two lists the one that comes after has the greater corner at the first site where they differ.
+before-greater : {es cs : List ℕ} → Before es cs → Greater es (length cs) cs
+before-greater (lower h) =
+    record { at = 0; below = suc-le-suc zero-le; same = λ m none. absurd (not-suc-le-zero none); greater = h }
+before-greater (later b) = greater-later (before-greater b)
 
-  -- What is the same or greater is not lower at the first site.
-  head-not-lower : SameOrGreater (c ∷ cs) (e ∷ es) → c ≤ e
-  head-not-lower (inl same) = le-of-eq (sym (same 0 (suc-le-suc zero-le)))
-  head-not-lower (inr g) = greater-head (g .at) (g .same) (g .greater)
+-- Of two lists at most one has the greater corner there.
+not-both-greater : {cs es : List ℕ} {i k : ℕ} → Greater cs i es → Greater es k cs → ⊥
+not-both-greater g b = from (decLt (g .at) (b .at)) (decLt (b .at) (g .at))
+  where
+    from : Dec (g .at < b .at) → Dec (b .at < g .at) → ⊥
+    from (yes first) second = omega (arith, b .same (g .at) first, g .greater)
+    from (no not-first) (yes second) = omega (arith, g .same (b .at) second, b .greater)
+    from (no not-first) (no not-second) =
+        let both : g .at ≡ b .at = omega arith in
+        omega (arith, rw both at (g .greater), b .greater)
 
-module _ (c : ℕ) (cs es : List ℕ) where
-  -- What is greater, and equal at the first site, is greater on the others.
-  greater-tail : (at : ℕ) → at < suc (length cs) → ((m : ℕ) → m < at → cornerAt (c ∷ es) m ≡ cornerAt (c ∷ cs) m)
-      → cornerAt (c ∷ cs) at < cornerAt (c ∷ es) at → Greater (cornerAt cs) (length cs) (cornerAt es)
-  greater-tail zero below same h = absurd (lt-irrefl c h)
-  greater-tail (suc a) below same h =
-      record { at = a; below = le-of-suc-le-suc below; same = λ m l. same (suc m) (suc-le-suc l); greater = h }
+module _ {P : Problem} {ways decided : List ℕ} (walked : Walked P (P .n) ways decided) (room : P .n ≤ length decided) where
+  -- The corner of a site among the decisions of the n sites.
+  decision : (i : ℕ) → i < P .n → cornerAt (take (P .n) decided) i ≡ cornerAt decided i
+  decision i listed = getD-take (P .n) decided i 0 listed
 
-  -- What is the same or greater, and equal at the first site, is the same or greater on the others.
-  tail-same-or-greater : SameOrGreater (c ∷ cs) (c ∷ es) → SameOrGreater cs es
-  tail-same-or-greater (inl same) = inl (λ m h. same (suc m) (suc-le-suc h))
-  tail-same-or-greater (inr g) = inr (greater-tail (g .at) (g .below) (g .same) (g .greater))
+  is-open : (i : ℕ) → i < P .n → rowOf ways i (cornerAt decided i) ≡ 1
+  is-open i h = walked .closed .decided-open i h (walked .all-decided i h h)
 
--- What is the same or greater is not before.
-pub same-or-greater-not-before : {cs es : List ℕ} → Before es cs → SameOrGreater cs es → ⊥
-same-or-greater-not-before (lower {c = e} {e = c} {cs = es} {es = cs} h) s = omega (arith, head-not-lower c e cs es s)
-same-or-greater-not-before (later {c = c} {cs = es} {es = cs} b) s = same-or-greater-not-before b (tail-same-or-greater c cs es s)
+  -- The decisions of the n sites are a solution ..
+  pub walk-solution : Solution P (take (P .n) decided)
+  walk-solution =
+      record {
+        one-each = length-take-le (P .n) decided room;
+        candidate = λ i h. rw (decision i h) (walked .closed .candidate i (cornerAt decided i) h (is-open i h));
+        apart = λ i j h l different.
+            rw (decision i h, decision j l)
+            (walked .closed .apart i j (cornerAt decided j) h l different (walked .all-decided i h h) (is-open j l));
+      }
+
+  -- .. and no solution comes before it: each has the decided corners, or the greater one at the first site where it differs.
+  pub walk-none-before : (es : List ℕ) → Solution P es → Before es (take (P .n) decided) → ⊥
+  walk-none-before es solution before =
+      ⊎-elim
+      (λ follows. omega (arith, above .greater, same follows (above .at) (above .below)))
+      (λ g. not-both-greater g above)
+      (walked .first es solution)
+    where
+      same : Follows P ways es → (m : ℕ) → m < P .n → cornerAt es m ≡ cornerAt decided m
+      same follows m h = follows-decided (walked .closed) follows m h (walked .all-decided m h h)
+
+      above : Greater es (P .n) decided
+      above =
+          let g = before-greater before in
+          let listed : g .at < P .n = omega (arith, g .below, length-take-le (P .n) decided room) in
+          record {
+            at = g .at;
+            below = listed;
+            same = λ m h. sym (decision m (omega arith)) ∙ g .same m h;
+            greater = rw (decision (g .at) listed) at (g .greater);
+          }

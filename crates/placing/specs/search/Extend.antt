@@ -1,91 +1,99 @@
 -- Where a state is closed and any solution exists, one exists that follows the state.
 -- Assumes nothing.
-use mathlib.Core.Path.{_≡_, refl, sym}
+use mathlib.Core.Path.{_≡_, refl, sym, ap}
+use mathlib.Core.List.{List, [], _∷_}
 use mathlib.Core.Logic.{_≢_, _⊎_, inl, inr}
-use Prim.Native.Nat.{ℕ, _<_}
-use native.Mathlib.Decide.{ℕ-discrete, decLt}
+use Prim.Native.Nat.{ℕ, zero, suc, _<_, zero-le, suc-le-suc}
+use native.Mathlib.Nat.{le-of-suc-le-suc, not-suc-le-zero}
+use native.Mathlib.Decide.{ℕ-discrete}
+use lib.ListN.{length}
+use Rattle.placing.specs.rules.Choice.{cornerAt}
 use Rattle.placing.specs.search.Problem.{Problem, Solution, Dead}
+use Rattle.placing.specs.search.Rows.{rowOf}
 use Rattle.placing.specs.search.State.{TwoOpen, ClosedBy, Closed, Follows}
 
 -- Corner c of site i is in conflict with no open corner of another site.
-record Safe (P : Problem) (op : ℕ → ℕ → ℕ) (i c : ℕ) : Type 0 where
-  meets-no-open : (j e : ℕ) → j < P .n → j ≢ i → op j e ≡ 1 → P .Conflict i c j e → ⊥
+record Safe (P : Problem) (ways : List ℕ) (i c : ℕ) : Type 0 where
+  meets-no-open : (j e : ℕ) → j < P .n → j ≢ i → rowOf ways j e ≡ 1 → P .Conflict i c j e → ⊥
 
--- Corner c can stand at site i beside what is left of the solution f: it is open, and it is f's own corner or safe.
-record Keeps (P : Problem) (op : ℕ → ℕ → ℕ) (f : ℕ → ℕ) (i c : ℕ) : Type 0 where
-  is-open : op i c ≡ 1
-  same-or-safe : (c ≡ f i) ⊎ Safe P op i c
+-- Corner c can stand at site i beside what is left of the solution cs: it is open, and it is the corner of cs or safe.
+record Keeps (P : Problem) (ways cs : List ℕ) (i c : ℕ) : Type 0 where
+  is-open : rowOf ways i c ≡ 1
+  same-or-safe : (c ≡ cornerAt cs i) ⊎ Safe P ways i c
 
--- Where each site below n has a corner of some kind, there is a choice of such corners.
-choice : {Q : ℕ → ℕ → Type 0} (n : ℕ) → ((i : ℕ) → i < n → (c : ℕ) × Q i c) → (g : ℕ → ℕ) × ((i : ℕ) → i < n → Q i (g i))
-choice {Q} n has = (λ i. pick i (decLt i n), λ i h. picked i h (decLt i n))
-  where
-    pick : (i : ℕ) → Dec (i < n) → ℕ
-    pick i (yes h) = has i h .0
-    pick i (no h) = 0
+-- What holds of a first corner, and of the others for the sites after the first, holds of all.
+first-and-others : (Q : ℕ → ℕ → Type 0) {n : ℕ} (c : ℕ) (cs : List ℕ) → Q 0 c → ((i : ℕ) → i < n → Q (suc i) (cornerAt cs i))
+    → (i : ℕ) → i < suc n → Q i (cornerAt (c ∷ cs) i)
+first-and-others Q c cs first others zero h = first
+first-and-others Q c cs first others (suc i) h = others i (le-of-suc-le-suc h)
 
-    picked : (i : ℕ) → i < n → (d : Dec (i < n)) → Q i (pick i d)
-    picked i h (yes k) = has i k .1
-    picked i h (no k) = absurd (k h)
+-- Where each site below n has a corner of some kind, there is a list of n such corners.
+choice : {Q : ℕ → ℕ → Type 0} (n : ℕ) → ((i : ℕ) → i < n → (c : ℕ) × Q i c)
+    → (cs : List ℕ) × (length cs ≡ n) × ((i : ℕ) → i < n → Q i (cornerAt cs i))
+choice zero has = ([], refl, λ i none. absurd (not-suc-le-zero none))
+choice {Q} (suc n) has =
+    let (c, first) = has 0 (suc-le-suc zero-le) in
+    let (cs, count, others) = choice {Q = λ i. Q (suc i)} n (λ i h. has (suc i) (suc-le-suc h)) in
+    (c ∷ cs, ap suc count, first-and-others Q c cs first others)
 
-module _ {P : Problem} {op : ℕ → ℕ → ℕ} {dec f : ℕ → ℕ} (closed : Closed P op dec) (solution : Solution P f) where
+module _ {P : Problem} {ways decided cs : List ℕ} (closed : Closed P ways decided) (solution : Solution P cs) where
   -- A closed corner of a solution is not dead: it conflicts with a decided corner.
-  closed-not-dead : (i : ℕ) → ClosedBy P dec i (f i) → Dead (P .n) (P .Candidate) (P .Conflict) i (f i) → ⊥
+  closed-not-dead : (i : ℕ) → ClosedBy P decided i (cornerAt cs i) → Dead (P .n) (P .Candidate) (P .Conflict) i (cornerAt cs i) → ⊥
   closed-not-dead i c dead =
-      dead .meets-nothing (c .by) (dec (c .by)) (c .listed) (c .different)
-      (closed .candidate (c .by) (dec (c .by)) (c .listed) (closed .decided-open (c .by) (c .listed) (c .decided)))
-      (P .symmetric (c .by) (dec (c .by)) i (f i) (c .conflict))
+      dead .meets-nothing (c .by) (cornerAt decided (c .by)) (c .listed) (c .different)
+      (closed .candidate (c .by) (cornerAt decided (c .by)) (c .listed) (closed .decided-open (c .by) (c .listed) (c .is-decided)))
+      (P .symmetric (c .by) (cornerAt decided (c .by)) i (cornerAt cs i) (c .conflict))
 
   -- A dead corner is safe.
-  dead-safe : {i c : ℕ} → Dead (P .n) (P .Candidate) (P .Conflict) i c → Safe P op i c
+  dead-safe : {i c : ℕ} → Dead (P .n) (P .Candidate) (P .Conflict) i c → Safe P ways i c
   dead-safe dead = record { meets-no-open = λ j e h d o. dead .meets-nothing j e h d (closed .candidate j e h o) }
 
   -- A decided corner is safe.
-  decided-safe : (i : ℕ) → i < P .n → dec i ≢ 0 → Safe P op i (dec i)
+  decided-safe : (i : ℕ) → i < P .n → cornerAt decided i ≢ 0 → Safe P ways i (cornerAt decided i)
   decided-safe i h d = record { meets-no-open = λ j e l different o. closed .apart i j e h l (λ p. different (sym p)) d o }
 
-  -- Where the corner of f is closed, of two open corners one is dead.
-  replaced : (i : ℕ) → i < P .n → dec i ≡ 0 → op i (f i) ≢ 1 → TwoOpen op i → (c : ℕ) × Keeps P op f i c
+  -- Where the corner of cs is closed, of two open corners one is dead.
+  replaced : (i : ℕ) → i < P .n → cornerAt decided i ≡ 0 → rowOf ways i (cornerAt cs i) ≢ 1 → TwoOpen ways i
+      → (c : ℕ) × Keeps P ways cs i c
   replaced i h u o two =
-      from (P .two-ways i (f i) (two .one) (two .two) h (λ p. o (rw p (two .one-open))) (λ p. o (rw p (two .two-open)))
+      from (P .two-ways i (cornerAt cs i) (two .one) (two .two) h (λ p. o (rw p (two .one-open))) (λ p. o (rw p (two .two-open)))
       (two .differ) (solution .candidate i h) (closed .candidate i (two .one) h (two .one-open))
       (closed .candidate i (two .two) h (two .two-open)))
     where
-      from : (Dead (P .n) (P .Candidate) (P .Conflict) i (f i))
+      from : (Dead (P .n) (P .Candidate) (P .Conflict) i (cornerAt cs i))
           ⊎ ((Dead (P .n) (P .Candidate) (P .Conflict) i (two .one)) ⊎ (Dead (P .n) (P .Candidate) (P .Conflict) i (two .two)))
-          → (c : ℕ) × Keeps P op f i c
-      from (inl a) = absurd (closed-not-dead i (closed .closed-by i (f i) h u (solution .candidate i h) o) a)
+          → (c : ℕ) × Keeps P ways cs i c
+      from (inl a) = absurd (closed-not-dead i (closed .closed-by i (cornerAt cs i) h u (solution .candidate i h) o) a)
       from (inr (inl b)) = (two .one, record { is-open = two .one-open; same-or-safe = inr (dead-safe b) })
       from (inr (inr c)) = (two .two, record { is-open = two .two-open; same-or-safe = inr (dead-safe c) })
 
   -- Every site has a corner that can stand.
-  kept : (i : ℕ) → i < P .n → (c : ℕ) × Keeps P op f i c
-  kept i h = from (ℕ-discrete (dec i) 0) (ℕ-discrete (op i (f i)) 1)
+  kept : (i : ℕ) → i < P .n → (c : ℕ) × Keeps P ways cs i c
+  kept i h = from (ℕ-discrete (cornerAt decided i) 0) (ℕ-discrete (rowOf ways i (cornerAt cs i)) 1)
     where
-      from : Dec (dec i ≡ 0) → Dec (op i (f i) ≡ 1) → (c : ℕ) × Keeps P op f i c
-      from (no d) o = (dec i, record { is-open = closed .decided-open i h d; same-or-safe = inr (decided-safe i h d) })
-      from (yes u) (yes o) = (f i, record { is-open = o; same-or-safe = inl refl })
-      from (yes u) (no o) = replaced i h u o (closed .two-left i (f i) h u (solution .candidate i h) o)
+      from : Dec (cornerAt decided i ≡ 0) → Dec (rowOf ways i (cornerAt cs i) ≡ 1) → (c : ℕ) × Keeps P ways cs i c
+      from (no d) o = (cornerAt decided i, record { is-open = closed .decided-open i h d; same-or-safe = inr (decided-safe i h d) })
+      from (yes u) (yes o) = (cornerAt cs i, record { is-open = o; same-or-safe = inl refl })
+      from (yes u) (no o) = replaced i h u o (closed .two-left i (cornerAt cs i) h u (solution .candidate i h) o)
 
   -- Two corners that can stand at different sites are not in conflict.
-  kept-apart : {i c j e : ℕ} → i < P .n → j < P .n → i ≢ j → Keeps P op f i c → Keeps P op f j e → P .Conflict i c j e → ⊥
+  kept-apart : {i c j e : ℕ} → i < P .n → j < P .n → i ≢ j → Keeps P ways cs i c → Keeps P ways cs j e → P .Conflict i c j e → ⊥
   kept-apart {i} {c} {j} {e} h l different k m conflict = from (k .same-or-safe) (m .same-or-safe)
     where
-      from : (c ≡ f i) ⊎ Safe P op i c → (e ≡ f j) ⊎ Safe P op j e → ⊥
+      from : (c ≡ cornerAt cs i) ⊎ Safe P ways i c → (e ≡ cornerAt cs j) ⊎ Safe P ways j e → ⊥
       from (inr s) t = s .meets-no-open j e l (λ p. different (sym p)) (m .is-open) conflict
       from (inl p) (inr t) = t .meets-no-open i c h different (k .is-open) (P .symmetric i c j e conflict)
       from (inl p) (inl q) = solution .apart i j h l different (rw (← p, ← q) conflict)
 
   -- Where a solution exists, one follows the closed state.
-  pub extends : (g : ℕ → ℕ) × Solution P g × Follows P op g
-  extends = from (choice (P .n) kept)
-    where
-      from : (g : ℕ → ℕ) × ((i : ℕ) → i < P .n → Keeps P op f i (g i)) → (g : ℕ → ℕ) × Solution P g × Follows P op g
-      from c = (
-        c .0,
+  pub extends : (es : List ℕ) × Solution P es × Follows P ways es
+  extends =
+      let (es, count, keeps) = choice (P .n) kept in (
+        es,
         record {
-          candidate = λ i h. closed .candidate i (c .0 i) h (c .1 i h .is-open);
-          apart = λ i j h l different. kept-apart h l different (c .1 i h) (c .1 j l);
+          one-each = count;
+          candidate = λ i h. closed .candidate i (cornerAt es i) h (keeps i h .is-open);
+          apart = λ i j h l different. kept-apart h l different (keeps i h) (keeps j l);
         },
-        record { follows = λ j h. c .1 j h .is-open },
+        record { follows = λ j h. keeps j h .is-open },
       )

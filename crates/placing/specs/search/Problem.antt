@@ -1,9 +1,13 @@
 -- The choice of one corner for each site, freed of geometry: candidates, a conflict between candidates of different sites,
 -- and the two-way fact, that of three different candidates of a site one is in conflict with nothing.
 -- Assumes nothing.
+use mathlib.Core.Path.{_≡_}
+use mathlib.Core.List.{List}
 use mathlib.Core.Logic.{_≢_, _⊎_}
 use Prim.Native.Nat.{ℕ, _<_}
+use lib.ListN.{length}
 use Rattle.placing.specs.rules.Corner.{Corner}
+use Rattle.placing.specs.rules.Choice.{cornerAt}
 
 -- Candidate c of site i conflicts with no candidate of another site. A candidate that is not dead is live.
 pub record Dead (n : ℕ) (Candidate : ℕ → ℕ → Type 0) (Conflict : ℕ → ℕ → ℕ → ℕ → Type 0) (i c : ℕ) : Type 0 where
@@ -20,7 +24,8 @@ pub record Problem : Type 1 where
   pub two-ways : (i a b c : ℕ) → i < n → a ≢ b → a ≢ c → b ≢ c → Candidate i a → Candidate i b → Candidate i c
       → Dead n Candidate Conflict i a ⊎ (Dead n Candidate Conflict i b ⊎ Dead n Candidate Conflict i c)
 
--- A full choice: a candidate for every site, no two in conflict.
-pub record Solution (P : Problem) (f : ℕ → ℕ) : Type 0 where
-  pub candidate : (i : ℕ) → i < P .n → P .Candidate i (f i)
-  pub apart : (i j : ℕ) → i < P .n → j < P .n → i ≢ j → P .Conflict i (f i) j (f j) → ⊥
+-- A full choice, as a list of corners: a candidate for every site, no two in conflict.
+pub record Solution (P : Problem) (cs : List ℕ) : Type 0 where
+  pub one-each : length cs ≡ P .n
+  pub candidate : (i : ℕ) → i < P .n → P .Candidate i (cornerAt cs i)
+  pub apart : (i j : ℕ) → i < P .n → j < P .n → i ≢ j → P .Conflict i (cornerAt cs i) j (cornerAt cs j) → ⊥

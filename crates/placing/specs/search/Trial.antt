@@ -2,12 +2,16 @@
 -- stuck, which refuses the corner, or with every decision carried out, in a closed state.
 -- Assumes nothing.
 use mathlib.Core.Path.{_≡_, sym, _∙_, ap}
+use mathlib.Core.List.{List}
 use mathlib.Core.Logic.{_≢_, ⊎-elim}
 use Prim.Native.Nat.{ℕ, _<_}
 use native.Mathlib.Decide.{ℕ-discrete}
 use native.Mathlib.Omega.{arith}
+use lib.ListN.{getD}
 use Rattle.placing.specs.rules.Corner.{Corner}
+use Rattle.placing.specs.rules.Choice.{cornerAt}
 use Rattle.placing.specs.search.Problem.{Problem, Solution}
+use Rattle.placing.specs.search.Rows.{rowOf}
 use Rattle.placing.specs.search.State.{
   TwoOpen,
   ClosedBy,
@@ -26,51 +30,52 @@ corner-not-zero : {c : ℕ} → Corner c → c ≢ 0
 corner-not-zero corner = omega arith
 
 -- A corner closed by a decision is closed by it as long as decisions stay.
-closed-by-stays : {P : Problem} {dec dec′ : ℕ → ℕ} {i c : ℕ} → ((j : ℕ) → j < P .n → dec j ≢ 0 → dec′ j ≡ dec j)
-    → ClosedBy P dec i c → ClosedBy P dec′ i c
+closed-by-stays : {P : Problem} {decided decided′ : List ℕ} {i c : ℕ}
+    → ((j : ℕ) → j < P .n → cornerAt decided j ≢ 0 → cornerAt decided′ j ≡ cornerAt decided j)
+    → ClosedBy P decided i c → ClosedBy P decided′ i c
 closed-by-stays stays c =
-    let same = stays (c .by) (c .listed) (c .decided) in
+    let same = stays (c .by) (c .listed) (c .is-decided) in
     record {
       by = c .by;
       listed = c .listed;
       different = c .different;
-      decided = rw same (c .decided);
+      is-decided = rw same (c .is-decided);
       conflict = rw same (c .conflict);
     }
 
-module _ {P : Problem} {op op′ : ℕ → ℕ → ℕ} {dec dec′ done′ : ℕ → ℕ} {i c : ℕ}
-    (closed : Closed P op dec) (listed : i < P .n) (undecided : dec i ≡ 0) (is-open : op i c ≡ 1)
-    (took : Took P op dec i c op′ dec′ done′) where
+module _ {P : Problem} {ways ways′ decided decided′ marks′ : List ℕ} {i c : ℕ}
+    (closed : Closed P ways decided) (listed : i < P .n) (undecided : cornerAt decided i ≡ 0) (is-open : rowOf ways i c ≡ 1)
+    (took : Took P ways decided i c ways′ decided′ marks′) where
   -- Taking a corner opens none.
-  took-closes : (j e : ℕ) → j < P .n → op′ j e ≡ 1 → op j e ≡ 1
+  took-closes : (j e : ℕ) → j < P .n → rowOf ways′ j e ≡ 1 → rowOf ways j e ≡ 1
   took-closes j e h o = from (ℕ-discrete j i)
     where
-      from : Dec (j ≡ i) → op j e ≡ 1
-      from (yes p) = ap (op j) (took .alone e (rw p at o)) ∙ rw p is-open
+      from : Dec (j ≡ i) → rowOf ways j e ≡ 1
+      from (yes p) = ap (rowOf ways j) (took .alone e (rw p at o)) ∙ rw p is-open
       from (no d) = sym (took .others-open j e h d) ∙ o
 
   -- A site decided before is another site.
-  took-other : (j : ℕ) → dec j ≢ 0 → j ≢ i
-  took-other j d p = d (ap dec p ∙ undecided)
+  took-other : (j : ℕ) → cornerAt decided j ≢ 0 → j ≢ i
+  took-other j d p = d (ap (cornerAt decided) p ∙ undecided)
 
   -- Taking a corner leaves the decisions before it.
-  took-stays : (j : ℕ) → j < P .n → dec j ≢ 0 → dec′ j ≡ dec j
+  took-stays : (j : ℕ) → j < P .n → cornerAt decided j ≢ 0 → cornerAt decided′ j ≡ cornerAt decided j
   took-stays j h d = took .others-decided j h (took-other j d)
 
   -- Site i is decided: a candidate's number is not 0.
-  taken-decided : dec′ i ≢ 0
+  taken-decided : cornerAt decided′ i ≢ 0
   taken-decided = rw (took .takes) (corner-not-zero (P .corner i c (closed .candidate i c listed is-open)))
 
   -- A site that is undecided after the taking is another site.
-  took-undecided : (j : ℕ) → dec′ j ≡ 0 → j ≢ i
-  took-undecided j u p = taken-decided (ap dec′ (sym p) ∙ u)
+  took-undecided : (j : ℕ) → cornerAt decided′ j ≡ 0 → j ≢ i
+  took-undecided j u p = taken-decided (ap (cornerAt decided′) (sym p) ∙ u)
 
   -- The sites that count as carried out were decided before.
-  marked-decided : (j : ℕ) → j < P .n → done′ j ≡ 1 → dec j ≢ 0
+  marked-decided : (j : ℕ) → j < P .n → getD marks′ j 0 ≡ 1 → cornerAt decided j ≢ 0
   marked-decided j h m u = took .unmarked j h u m
 
   -- A trial starts with the sites decided before carried out.
-  pub trial-begins : Underway P op′ dec′ done′
+  pub trial-begins : Underway P ways′ decided′ marks′
   trial-begins =
       record {
         candidate = λ j e h o. closed .candidate j e h (took-closes j e h o);
@@ -80,31 +85,31 @@ module _ {P : Problem} {op op′ : ℕ → ℕ → ℕ} {dec dec′ done′ : �
             closed-by-stays took-stays (closed .closed-by j e h (was-undecided j h u) candidate (was-shut j e h u shut));
         two-left = λ j e h u candidate shut.
             two-left j h (took-undecided j u) (closed .two-left j e h (was-undecided j h u) candidate (was-shut j e h u shut));
-        done-decided = λ j h m. rw (took-stays j h (marked-decided j h m)) (marked-decided j h m);
+        marked-decided = λ j h m. rw (took-stays j h (marked-decided j h m)) (marked-decided j h m);
         apart = λ j k e h l different m o conflict.
             closed .apart j k e h l different (marked-decided j h m) (took-closes k e l o)
             (rw (took-stays j h (marked-decided j h m)) at conflict);
       }
     where
-      was-undecided : (j : ℕ) → j < P .n → dec′ j ≡ 0 → dec j ≡ 0
+      was-undecided : (j : ℕ) → j < P .n → cornerAt decided′ j ≡ 0 → cornerAt decided j ≡ 0
       was-undecided j h u = sym (took .others-decided j h (took-undecided j u)) ∙ u
 
-      was-shut : (j e : ℕ) → j < P .n → dec′ j ≡ 0 → op′ j e ≢ 1 → op j e ≢ 1
+      was-shut : (j e : ℕ) → j < P .n → cornerAt decided′ j ≡ 0 → rowOf ways′ j e ≢ 1 → rowOf ways j e ≢ 1
       was-shut j e h u shut o = shut (took .others-open j e h (took-undecided j u) ∙ o)
 
-      decided-open : (j : ℕ) → j < P .n → dec′ j ≢ 0 → Dec (j ≡ i) → op′ j (dec′ j) ≡ 1
+      decided-open : (j : ℕ) → j < P .n → cornerAt decided′ j ≢ 0 → Dec (j ≡ i) → rowOf ways′ j (cornerAt decided′ j) ≡ 1
       decided-open j h d (yes p) = rw (p, took .takes) (took .is-open)
       decided-open j h d (no n) =
           let same = took .others-decided j h n in
-          ap (op′ j) same ∙ took .others-open j (dec j) h n ∙ closed .decided-open j h (rw same at d)
+          ap (rowOf ways′ j) same ∙ took .others-open j (cornerAt decided j) h n ∙ closed .decided-open j h (rw same at d)
 
-      decided-alone : (j e : ℕ) → j < P .n → dec′ j ≢ 0 → op′ j e ≡ 1 → Dec (j ≡ i) → e ≡ dec′ j
-      decided-alone j e h d o (yes p) = took .alone e (rw p at o) ∙ sym (ap dec′ p ∙ took .takes)
+      decided-alone : (j e : ℕ) → j < P .n → cornerAt decided′ j ≢ 0 → rowOf ways′ j e ≡ 1 → Dec (j ≡ i) → e ≡ cornerAt decided′ j
+      decided-alone j e h d o (yes p) = took .alone e (rw p at o) ∙ sym (ap (cornerAt decided′) p ∙ took .takes)
       decided-alone j e h d o (no n) =
           let same = took .others-decided j h n in
           closed .decided-alone j e h (rw same at d) (sym (took .others-open j e h n) ∙ o) ∙ sym same
 
-      two-left : (j : ℕ) → j < P .n → j ≢ i → TwoOpen op j → TwoOpen op′ j
+      two-left : (j : ℕ) → j < P .n → j ≢ i → TwoOpen ways j → TwoOpen ways′ j
       two-left j h n two =
           record {
             one = two .one;
@@ -115,119 +120,127 @@ module _ {P : Problem} {op op′ : ℕ → ℕ → ℕ} {dec dec′ done′ : �
           }
 
   -- A solution that follows the closed state and has corner c at site i follows the trial's start.
-  pub trial-onward-start : Onward P op dec i c op′ dec′
+  pub trial-onward-start : Onward P ways decided i c ways′ decided′
   trial-onward-start =
       record {
         takes = took .takes;
         stays = took-stays;
-        follows = λ f solution follows takes. record { follows = λ j h. follow f follows takes j h (ℕ-discrete j i) };
+        follows = λ cs solution follows takes. record { follows = λ j h. follow cs follows takes j h (ℕ-discrete j i) };
       }
     where
-      follow : (f : ℕ → ℕ) → Follows P op f → f i ≡ c → (j : ℕ) → j < P .n → Dec (j ≡ i) → op′ j (f j) ≡ 1
-      follow f follows takes j h (yes p) = rw (p, takes) (took .is-open)
-      follow f follows takes j h (no n) = took .others-open j (f j) h n ∙ follows .follows j h
+      follow : (cs : List ℕ) → Follows P ways cs → cornerAt cs i ≡ c → (j : ℕ) → j < P .n → Dec (j ≡ i)
+          → rowOf ways′ j (cornerAt cs j) ≡ 1
+      follow cs follows takes j h (yes p) = rw (p, takes) (took .is-open)
+      follow cs follows takes j h (no n) = took .others-open j (cornerAt cs j) h n ∙ follows .follows j h
 
-module _ {P : Problem} {op : ℕ → ℕ → ℕ} {dec done : ℕ → ℕ} {k : ℕ}
-    (underway : Underway P op dec done) (listed : k < P .n) (decided : dec k ≢ 0) where
+module _ {P : Problem} {ways decided marks : List ℕ} {k : ℕ}
+    (underway : Underway P ways decided marks) (listed : k < P .n) (is-decided : cornerAt decided k ≢ 0) where
   -- A solution that follows the state has the decided corner at site k, so no other corner of it conflicts with that one.
-  decided-apart : (f : ℕ → ℕ) → Solution P f → Follows P op f → (j : ℕ) → j < P .n → j ≢ k → P .Conflict k (dec k) j (f j) → ⊥
-  decided-apart f solution follows j h different conflict =
+  decided-apart : (cs : List ℕ) → Solution P cs → Follows P ways cs → (j : ℕ) → j < P .n → j ≢ k
+      → P .Conflict k (cornerAt decided k) j (cornerAt cs j) → ⊥
+  decided-apart cs solution follows j h different conflict =
       solution .apart k j listed h (λ p. different (sym p))
-      (rw (underway .decided-alone k (f k) listed decided (follows .follows k listed)) conflict)
+      (rw (underway .decided-alone k (cornerAt cs k) listed is-decided (follows .follows k listed)) conflict)
 
   -- A trial that is stuck refuses the corner that it took.
-  pub stuck-refused : {op₀ : ℕ → ℕ → ℕ} {dec₀ : ℕ → ℕ} {i c : ℕ} → Stuck P op dec k → Onward P op₀ dec₀ i c op dec
-      → Refused P op₀ i c
+  pub stuck-refused : {ways₀ decided₀ : List ℕ} {i c : ℕ} → Stuck P ways decided k → Onward P ways₀ decided₀ i c ways decided
+      → Refused P ways₀ i c
   stuck-refused stuck onward =
-      record { refused = λ f solution follows takes. refute f solution (onward .follows f solution follows takes) }
+      record { refused = λ cs solution follows takes. refute cs solution (onward .follows cs solution follows takes) }
     where
-      refute : (f : ℕ → ℕ) → Solution P f → Follows P op f → ⊥
-      refute f solution follows =
-          decided-apart f solution follows (stuck .site) (stuck .listed) (stuck .different)
-          (stuck .all-conflict (f (stuck .site)) (follows .follows (stuck .site) (stuck .listed)))
+      refute : (cs : List ℕ) → Solution P cs → Follows P ways cs → ⊥
+      refute cs solution follows =
+          decided-apart cs solution follows (stuck .site) (stuck .listed) (stuck .different)
+          (stuck .all-conflict (cornerAt cs (stuck .site)) (follows .follows (stuck .site) (stuck .listed)))
 
-  module _ {op′ : ℕ → ℕ → ℕ} {dec′ : ℕ → ℕ} (carried : Carried P op dec k op′ dec′) where
+  module _ {ways′ decided′ : List ℕ} (carried : Carried P ways decided k ways′ decided′) where
     -- Carrying out a decision opens no corner.
-    carried-closes : (j e : ℕ) → j < P .n → op′ j e ≡ 1 → op j e ≡ 1
+    carried-closes : (j e : ℕ) → j < P .n → rowOf ways′ j e ≡ 1 → rowOf ways j e ≡ 1
     carried-closes j e h o = from (ℕ-discrete j k)
       where
-        from : Dec (j ≡ k) → op j e ≡ 1
+        from : Dec (j ≡ k) → rowOf ways j e ≡ 1
         from (yes p) = rw p (sym (carried .own-open e) ∙ rw p at o)
         from (no d) = carried .others j h d .closes e o
 
     -- Carrying out a decision leaves the decisions.
-    carried-stays : (j : ℕ) → j < P .n → dec j ≢ 0 → dec′ j ≡ dec j
+    carried-stays : (j : ℕ) → j < P .n → cornerAt decided j ≢ 0 → cornerAt decided′ j ≡ cornerAt decided j
     carried-stays j h d = from (ℕ-discrete j k)
       where
-        from : Dec (j ≡ k) → dec′ j ≡ dec j
+        from : Dec (j ≡ k) → cornerAt decided′ j ≡ cornerAt decided j
         from (yes p) = rw p (carried .own-decided)
         from (no n) = carried .others j h n .stays-decided d
 
     -- An undecided site is not site k.
-    undecided-other : (j : ℕ) → dec j ≡ 0 → j ≢ k
-    undecided-other j u p = decided (ap dec (sym p) ∙ u)
+    undecided-other : (j : ℕ) → cornerAt decided j ≡ 0 → j ≢ k
+    undecided-other j u p = is-decided (ap (cornerAt decided) (sym p) ∙ u)
 
     -- Carrying out a decision leaves decided corners open.
-    carried-open : (j : ℕ) → j < P .n → dec j ≢ 0 → op′ j (dec j) ≡ 1
+    carried-open : (j : ℕ) → j < P .n → cornerAt decided j ≢ 0 → rowOf ways′ j (cornerAt decided j) ≡ 1
     carried-open j h d = from (ℕ-discrete j k)
       where
-        from : Dec (j ≡ k) → op′ j (dec j) ≡ 1
-        from (yes p) = rw p (carried .own-open (dec k) ∙ underway .decided-open k listed decided)
+        from : Dec (j ≡ k) → rowOf ways′ j (cornerAt decided j) ≡ 1
+        from (yes p) = rw p (carried .own-open (cornerAt decided k) ∙ underway .decided-open k listed is-decided)
         from (no n) = carried .others j h n .stays-open d
 
     -- A site that is undecided afterwards was undecided.
-    was-undecided : (j : ℕ) → j < P .n → dec′ j ≡ 0 → dec j ≡ 0
-    was-undecided j h u = from (ℕ-discrete (dec j) 0)
+    was-undecided : (j : ℕ) → j < P .n → cornerAt decided′ j ≡ 0 → cornerAt decided j ≡ 0
+    was-undecided j h u = from (ℕ-discrete (cornerAt decided j) 0)
       where
-        from : Dec (dec j ≡ 0) → dec j ≡ 0
+        from : Dec (cornerAt decided j ≡ 0) → cornerAt decided j ≡ 0
         from (yes p) = p
         from (no d) = absurd (d (sym (carried-stays j h d) ∙ u))
 
     -- A solution that follows the state follows it after the decision is carried out.
-    carried-follows : (f : ℕ → ℕ) → Solution P f → Follows P op f → Follows P op′ f
-    carried-follows f solution follows = record { follows = λ j h. follow j h (ℕ-discrete j k) }
+    carried-follows : (cs : List ℕ) → Solution P cs → Follows P ways cs → Follows P ways′ cs
+    carried-follows cs solution follows = record { follows = λ j h. follow j h (ℕ-discrete j k) }
       where
-        follow : (j : ℕ) → j < P .n → Dec (j ≡ k) → op′ j (f j) ≡ 1
-        follow j h (yes p) = rw p (carried .own-open (f k) ∙ follows .follows k listed)
+        follow : (j : ℕ) → j < P .n → Dec (j ≡ k) → rowOf ways′ j (cornerAt cs j) ≡ 1
+        follow j h (yes p) = rw p (carried .own-open (cornerAt cs k) ∙ follows .follows k listed)
         follow j h (no n) =
-            ⊎-elim (λ o. o) (λ conflict. absurd (decided-apart f solution follows j h n conflict))
-            (carried .others j h n .keeps (f j) (follows .follows j h))
+            ⊎-elim (λ o. o) (λ conflict. absurd (decided-apart cs solution follows j h n conflict))
+            (carried .others j h n .keeps (cornerAt cs j) (follows .follows j h))
 
     -- The state after a decision is carried out is still a later state of the search that took c at i.
-    pub carried-onward : {op₀ : ℕ → ℕ → ℕ} {dec₀ : ℕ → ℕ} {i c : ℕ} → i < P .n → c ≢ 0 → Onward P op₀ dec₀ i c op dec
-        → Onward P op₀ dec₀ i c op′ dec′
+    pub carried-onward : {ways₀ decided₀ : List ℕ} {i c : ℕ} → i < P .n → c ≢ 0 → Onward P ways₀ decided₀ i c ways decided
+        → Onward P ways₀ decided₀ i c ways′ decided′
     carried-onward {i = i} h some onward =
         record {
           takes = carried-stays i h (rw (onward .takes) some) ∙ onward .takes;
           stays = λ j l d. carried-stays j l (rw (onward .stays j l d) d) ∙ onward .stays j l d;
-          follows = λ f solution follows takes. carried-follows f solution (onward .follows f solution follows takes);
+          follows = λ cs solution follows takes. carried-follows cs solution (onward .follows cs solution follows takes);
         }
 
     -- After the decision of site k is carried out and k is marked, the trial is under way with one more site done.
-    pub carried-underway : {done′ : ℕ → ℕ} → done′ k ≡ 1 → ((j : ℕ) → j < P .n → j ≢ k → done′ j ≡ done j)
-        → Underway P op′ dec′ done′
-    carried-underway {done′} marks others =
+    pub carried-underway : {marks′ : List ℕ} → getD marks′ k 0 ≡ 1 → ((j : ℕ) → j < P .n → j ≢ k → getD marks′ j 0 ≡ getD marks j 0)
+        → Underway P ways′ decided′ marks′
+    carried-underway {marks′} mark others =
         record {
           candidate = λ j e h o. underway .candidate j e h (carried-closes j e h o);
-          decided-open = λ j h d. decided-open j h d (ℕ-discrete (dec j) 0);
-          decided-alone = λ j e h d o. decided-alone j e h d o (ℕ-discrete (dec j) 0);
-          closed-by = λ j e h u candidate shut. closed-by j e h (was-undecided j h u) candidate shut (ℕ-discrete (op j e) 1);
-          two-left = λ j e h u candidate shut. two-left j e h u (was-undecided j h u) candidate shut (ℕ-discrete (op j e) 1);
-          done-decided = λ j h m. rw (carried-stays j h (done-decided j h m (ℕ-discrete j k))) (done-decided j h m (ℕ-discrete j k));
+          decided-open = λ j h d. decided-open j h d (ℕ-discrete (cornerAt decided j) 0);
+          decided-alone = λ j e h d o. decided-alone j e h d o (ℕ-discrete (cornerAt decided j) 0);
+          closed-by = λ j e h u candidate shut.
+              closed-by j e h (was-undecided j h u) candidate shut (ℕ-discrete (rowOf ways j e) 1);
+          two-left = λ j e h u candidate shut.
+              two-left j e h u (was-undecided j h u) candidate shut (ℕ-discrete (rowOf ways j e) 1);
+          marked-decided = λ j h m.
+              rw (carried-stays j h (marked-decided j h m (ℕ-discrete j k))) (marked-decided j h m (ℕ-discrete j k));
           apart = λ i j e h l different m o conflict.
               apart i j e h l different m o
-              (rw (carried-stays i h (done-decided i h m (ℕ-discrete i k))) at conflict) (ℕ-discrete i k);
+              (rw (carried-stays i h (marked-decided i h m (ℕ-discrete i k))) at conflict) (ℕ-discrete i k);
         }
       where
-        decided-open : (j : ℕ) → j < P .n → dec′ j ≢ 0 → Dec (dec j ≡ 0) → op′ j (dec′ j) ≡ 1
+        decided-open : (j : ℕ) → j < P .n → cornerAt decided′ j ≢ 0 → Dec (cornerAt decided j ≡ 0)
+            → rowOf ways′ j (cornerAt decided′ j) ≡ 1
         decided-open j h d (yes u) = carried .others j h (undecided-other j u) .decides-open u d
-        decided-open j h d (no n) = ap (op′ j) (carried-stays j h n) ∙ carried-open j h n
+        decided-open j h d (no n) = ap (rowOf ways′ j) (carried-stays j h n) ∙ carried-open j h n
 
-        decided-alone : (j e : ℕ) → j < P .n → dec′ j ≢ 0 → op′ j e ≡ 1 → Dec (dec j ≡ 0) → e ≡ dec′ j
+        decided-alone : (j e : ℕ) → j < P .n → cornerAt decided′ j ≢ 0 → rowOf ways′ j e ≡ 1 → Dec (cornerAt decided j ≡ 0)
+            → e ≡ cornerAt decided′ j
         decided-alone j e h d o (yes u) = carried .others j h (undecided-other j u) .decides-alone e u d o
         decided-alone j e h d o (no n) = underway .decided-alone j e h n (carried-closes j e h o) ∙ sym (carried-stays j h n)
 
-        closed-by : (j e : ℕ) → j < P .n → dec j ≡ 0 → P .Candidate j e → op′ j e ≢ 1 → Dec (op j e ≡ 1) → ClosedBy P dec′ j e
+        closed-by : (j e : ℕ) → j < P .n → cornerAt decided j ≡ 0 → P .Candidate j e → rowOf ways′ j e ≢ 1
+            → Dec (rowOf ways j e ≡ 1) → ClosedBy P decided′ j e
         closed-by j e h u candidate shut (no n) = closed-by-stays carried-stays (underway .closed-by j e h u candidate n)
         closed-by j e h u candidate shut (yes o) =
             ⊎-elim (λ p. absurd (shut p))
@@ -235,38 +248,39 @@ module _ {P : Problem} {op : ℕ → ℕ → ℕ} {dec done : ℕ → ℕ} {k : 
               by = k;
               listed = listed;
               different = λ p. undecided-other j u (sym p);
-              decided = rw (carried .own-decided) decided;
+              is-decided = rw (carried .own-decided) is-decided;
               conflict = rw (carried .own-decided) conflict;
             })
             (carried .others j h (undecided-other j u) .keeps e o)
 
-        two-open : (j : ℕ) → j < P .n → dec′ j ≡ 0 → dec j ≡ 0 → (two : TwoOpen op j) → Dec (op′ j (two .one) ≡ 1)
-            → Dec (op′ j (two .two) ≡ 1) → TwoOpen op′ j
+        two-open : (j : ℕ) → j < P .n → cornerAt decided′ j ≡ 0 → cornerAt decided j ≡ 0 → (two : TwoOpen ways j)
+            → Dec (rowOf ways′ j (two .one) ≡ 1) → Dec (rowOf ways′ j (two .two) ≡ 1) → TwoOpen ways′ j
         two-open j h u w two (yes p) (yes q) =
             record { one = two .one; two = two .two; differ = two .differ; one-open = p; two-open = q }
         two-open j h u w two (no p) q = carried .others j h (undecided-other j w) .two-left (two .one) u (two .one-open) p
         two-open j h u w two (yes p) (no q) = carried .others j h (undecided-other j w) .two-left (two .two) u (two .two-open) q
 
-        two-left : (j e : ℕ) → j < P .n → dec′ j ≡ 0 → dec j ≡ 0 → P .Candidate j e → op′ j e ≢ 1 → Dec (op j e ≡ 1)
-            → TwoOpen op′ j
+        two-left : (j e : ℕ) → j < P .n → cornerAt decided′ j ≡ 0 → cornerAt decided j ≡ 0 → P .Candidate j e → rowOf ways′ j e ≢ 1
+            → Dec (rowOf ways j e ≡ 1) → TwoOpen ways′ j
         two-left j e h u w candidate shut (yes o) = carried .others j h (undecided-other j w) .two-left e u o shut
         two-left j e h u w candidate shut (no n) =
             let two = underway .two-left j e h w candidate n in
-            two-open j h u w two (ℕ-discrete (op′ j (two .one)) 1) (ℕ-discrete (op′ j (two .two)) 1)
+            two-open j h u w two (ℕ-discrete (rowOf ways′ j (two .one)) 1) (ℕ-discrete (rowOf ways′ j (two .two)) 1)
 
-        done-decided : (j : ℕ) → j < P .n → done′ j ≡ 1 → Dec (j ≡ k) → dec j ≢ 0
-        done-decided j h m (yes p) = rw p decided
-        done-decided j h m (no n) = underway .done-decided j h (sym (others j h n) ∙ m)
+        marked-decided : (j : ℕ) → j < P .n → getD marks′ j 0 ≡ 1 → Dec (j ≡ k) → cornerAt decided j ≢ 0
+        marked-decided j h m (yes p) = rw p is-decided
+        marked-decided j h m (no n) = underway .marked-decided j h (sym (others j h n) ∙ m)
 
-        apart : (i j e : ℕ) → i < P .n → j < P .n → i ≢ j → done′ i ≡ 1 → op′ j e ≡ 1 → P .Conflict i (dec i) j e → Dec (i ≡ k) → ⊥
+        apart : (i j e : ℕ) → i < P .n → j < P .n → i ≢ j → getD marks′ i 0 ≡ 1 → rowOf ways′ j e ≡ 1
+            → P .Conflict i (cornerAt decided i) j e → Dec (i ≡ k) → ⊥
         apart i j e h l different m o conflict (yes p) =
             carried .others j l (λ q. different (p ∙ sym q)) .apart e o (rw p at conflict)
         apart i j e h l different m o conflict (no n) =
             underway .apart i j e h l different (sym (others i h n) ∙ m) (carried-closes j e l o) conflict
 
 -- A trial that has carried out every decision leaves a closed state.
-pub trial-closed : {P : Problem} {op : ℕ → ℕ → ℕ} {dec done : ℕ → ℕ} → Underway P op dec done
-    → ((j : ℕ) → j < P .n → dec j ≢ 0 → done j ≡ 1) → Closed P op dec
+pub trial-closed : {P : Problem} {ways decided marks : List ℕ} → Underway P ways decided marks
+    → ((j : ℕ) → j < P .n → cornerAt decided j ≢ 0 → getD marks j 0 ≡ 1) → Closed P ways decided
 trial-closed underway all =
     record {
       candidate = underway .candidate;

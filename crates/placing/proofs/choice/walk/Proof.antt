@@ -5,11 +5,10 @@ use mathlib.Core.Logic.{⊎-elim}
 use native.Mathlib.Omega.{arith}
 use borrow.Author.Needs.{needs}
 use borrow.Author.Tests.{not-true, not-false}
-use Rattle.placing.specs.rules.Choice.{cornerAt}
 use Rattle.placing.specs.search.State.{Walked}
 use Rattle.placing.specs.search.Walk.{walk-decided-add-one}
 use Rattle.placing.specs.code.Labels.{labels}
-use Rattle.placing.specs.code.Ways.{Kept, Sizes, rowOf}
+use Rattle.placing.specs.code.Ways.{Kept, Sizes}
 use Rattle.placing.specs.code.Marks.{kept-same, kept-twice}
 use Rattle.placing.specs.code.Walking.{walk-over, walked-all}
 use Rattle.placing.proofs.choice.walk.Statement.{statement}
@@ -18,7 +17,7 @@ use Rattle.placing.proofs.choice.walk.Tie as tie
 abbrev Inv-loop : tie.InvT-loop
 Inv-loop xs ys n side marks₀ state₀ i₀ marks state i =
     (i ≤ n) × Kept n marks₀ marks × Sizes (state .ways) (state .decided)
-    × Walked (labels (side .0) n xs ys) i (rowOf (state .ways)) (cornerAt (state .decided))
+    × Walked (labels (side .0) n xs ys) i (state .ways) (state .decided)
 
 abbrev μ-loop : tie.MeasureT-loop
 μ-loop xs ys n side marks₀ state₀ i₀ marks state i = n - i

@@ -1,4 +1,4 @@
--- `trial::carry_to` meets its contract: of the open corners of site `j` only `c` can meet, and `meet` decides whether it does; then it is closed.
+-- `trial::carry_to` meets its contract: of the open corners of site `j` only `c` can meet, and is closed where `meet` says that it does.
 -- Assumes nothing.
 use Rattle.placing.specs.code.Carry.{carried-meeting, carried-apart}
 use borrow.Author.Needs.{needs}

@@ -1,6 +1,6 @@
 -- `trial::close_corner` meets its contract: what `left_of` says of the bytes after the write, by a law of specs/code/Carry for each arm.
 -- Assumes nothing.
-use Rattle.placing.specs.code.Ways.{rowOf}
+use Rattle.placing.specs.search.Rows.{rowOf}
 use Rattle.placing.specs.code.Carry.{closed-none, closed-lone, closed-some}
 use borrow.Author.Needs.{needs}
 use Rattle.placing.proofs.trial.close_corner.Statement.{statement}

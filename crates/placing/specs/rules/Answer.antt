@@ -140,9 +140,6 @@ answer-unique {ps} (is-number {h} {cs} n l m f above) (is-number {h = k} {cs = e
 pub is-answer-of : {ps : List Place} {a : Answer} → Distinct ps → IsAnswer ps a → a ≡ answerOf ps
 is-answer-of {ps} d r = answer-unique r (answer-is ps d)
 
-pub answer-of-is : {ps : List Place} {a : Answer} → Distinct ps → answerOf ps ≡ a → IsAnswer ps a
-answer-of-is {ps} d e = subst (IsAnswer ps) e (answer-is ps d)
-
 -- A side that has a first good choice while the next side has none is the answer's.
 pub answer-found : {ps : List Place} {h : ℕ} {cs : List ℕ} → Distinct ps → 1 ≤ h → h ≤ greatestSide → First h ps cs
     → ((es : List ℕ) → Good (suc h) ps es → ⊥) → answerOf ps ≡ numbered h cs

@@ -2,6 +2,7 @@
 use crate::calls::place;
 use crate::limits::TextLimits;
 use crate::list::read;
+use crate::plan::Planned;
 use crate::plan::Written;
 use crate::put::put_byte;
 use crate::put::put_bytes;
@@ -12,8 +13,10 @@ use crate::refusal::number_of;
 use crate::sheet::write;
 ghost use mathlib.Core.Path.{_≡_};
 ghost use lib.ListN.{length};
+ghost use Rattle.plan.specs.rules.List.{readList};
+ghost use Rattle.plan.specs.rules.Plan.{Valid};
 ghost use Rattle.plan.specs.rules.Calls.{writtenNumber, writtenLength, carriedAt};
-ghost use Rattle.plan.specs.rules.Output.{outputOf, outputWritten, outputNumber, outputAfter, refusalWritten, refusalAfter};
+ghost use Rattle.plan.specs.rules.Output.{listPlaced, outputOf, outputWritten, outputNumber, outputAfter, refusalWritten, refusalAfter};
 ghost use Rattle.plan.specs.Demands.{SheetFor};
 
 // Writes the word refused, a tab, the number and a line feed, where there is room.
@@ -33,7 +36,22 @@ fn write_refusal(why: Refusal, buffer: &mut [u8]) -> Written
     Written::Bytes(n)
 }
 
-// The output for a list: its sheet, or the line of its refusal. It lends placing a work table of its own.
+// The plan of a list, placed; where the list is refused or has no sites, an empty plan. It lends placing a work table of its own.
+pub fn place_list(text: &[u8]) -> Planned
+    ensures answer { λ r. ⌜ r ≡ listPlaced (readList (now (text .entry))) ⌝ }
+    ensures valid { λ r. ⌜ Valid (r .plan) ⌝ }
+{
+    let listed = read(text);
+    let reading = listed.outcome;
+    if let Outcome::Refused(_) = reading {
+        return listed;
+    }
+    let mut table = [0u8; TextLimits::TABLE];
+    let level = listed.plan;
+    place(level, &mut table)
+}
+
+// The output for a list: its sheet, or the line of its refusal.
 pub fn output(text: &[u8], buffer: &mut [u8]) -> Written
     ensures answer { λ r. ⌜ r ≡ outputWritten (now (text .entry)) (now (buffer .entry)) ⌝ }
     ensures buffer { λ r. ⌜ now (buffer .exit) ≡ outputAfter (now (text .entry)) (now (buffer .entry)) ⌝ }
@@ -42,16 +60,9 @@ pub fn output(text: &[u8], buffer: &mut [u8]) -> Written
     ensures value { λ r. ⌜ writtenLength r
         ≡ carriedAt (outputNumber (now (text .entry)) (now (buffer .entry))) (length (outputOf (now (text .entry)))) ⌝ }
 {
-    let listed = read(text);
-    let reading = listed.outcome;
-    if let Outcome::Refused(why) = reading {
-        return write_refusal(why, buffer);
-    }
-    let mut table = [0u8; TextLimits::TABLE];
-    let level = listed.plan;
-    let placed = place(level, &mut table);
-    let placing = placed.outcome;
-    if let Outcome::Refused(why) = placing {
+    let placed = place_list(text);
+    let outcome = placed.outcome;
+    if let Outcome::Refused(why) = outcome {
         return write_refusal(why, buffer);
     }
     let plan = placed.plan;

@@ -1,9 +1,9 @@
--- What reading, placing and writing one after the other make of a list and a buffer: the call.
+-- What placing a list and writing its plan make of the list and a buffer: the call.
 -- Assumes nothing.
 use mathlib.Core.Path.{_≡_, refl, sym, ap, ap₂, _∙_, subst}
 use mathlib.Core.Bool.{Bool, true, false}
 use mathlib.Core.List.{List, [], _∷_}
-use Prim.Native.Nat.{ℕ, _≤_}
+use Prim.Native.Nat.{ℕ}
 use native.Mathlib.Omega.{arith}
 use lib.Dec.{ltb}
 use lib.ListN.{length}
@@ -15,14 +15,12 @@ use Rattle.plan.specs.declared.refusal.Outcome.the-variants.{Done, Refused}
 use Rattle.plan.specs.declared.refusal.Refusal.{Refusal}
 use Rattle.plan.specs.declared.refusal.Refusal.the-variants.{NoSites}
 use Rattle.plan.specs.rules.Refusal.{numberOf}
-use Rattle.plan.specs.code.Refusing.{refusal-short}
 use Rattle.plan.specs.rules.Enter.{Sites, accepted, refused}
-use Rattle.plan.specs.rules.List.{readList, read-listed}
-use Rattle.plan.specs.rules.Sheet.{sheetOf, sheet-shortest}
-use Rattle.plan.specs.rules.Plan.{unplaced}
-use Rattle.plan.specs.rules.Calls.{plannedOr, started, readFrom, placedIn, written, bufferAfter, filledWhere, fullTable}
-use Rattle.plan.specs.rules.Output.{outputOf, outputWhere, output-sheet}
-use Rattle.plan.specs.code.Filling.{place-refused, place-done, sheet-filled, Filled}
+use Rattle.plan.specs.rules.List.{readList}
+use Rattle.plan.specs.rules.Sheet.{sheetOf}
+use Rattle.plan.specs.rules.Calls.{written, bufferAfter, filledWhere}
+use Rattle.plan.specs.rules.Output.{listPlaced, outputOf, outputWhere, output-sheet}
+use Rattle.plan.specs.code.Filling.{placed-output, sheet-filled, Filled}
 use Rattle.sheet_call.specs.Call.{Called, Told, refusal, sheetIn, calledFor, called, call-told}
 
 -- What the contract says of a number and of a buffer afterwards.
@@ -46,13 +44,14 @@ refusal-meets list buffer {after} why is number-is =
 abbrev outcomeOf : Planned → Outcome
 outcomeOf p = p .outcome
 
--- Reading is refused.
-pub read-refuses : (list buffer : List ℕ) {listed : Planned} {why : Refusal} → listed ≡ readFrom list → listed .outcome ≡ Refused why
-    → called list buffer ≡ refusal why buffer
-read-refuses list buffer {listed} {why} listed-is is = by-sites (readList list) (ap outcomeOf (sym listed-is) ∙ is)
+-- The list is refused.
+pub list-refuses : (list buffer : List ℕ) {done : Planned} {why : Refusal} → done ≡ listPlaced (readList list)
+    → done .outcome ≡ Refused why → called list buffer ≡ refusal why buffer
+list-refuses list buffer {done} {why} done-is is = by-sites (readList list) (ap outcomeOf (sym done-is) ∙ is)
   where
-    by-sites : (sites : Sites) → plannedOr started sites .outcome ≡ Refused why → calledFor sites buffer ≡ refusal why buffer
-    by-sites (accepted sites) is = let z : _≡_ {A = ℕ} 0 1 = cc in absurd (omega arith)
+    by-sites : (sites : Sites) → listPlaced sites .outcome ≡ Refused why → calledFor sites buffer ≡ refusal why buffer
+    by-sites (accepted []) is = let same : NoSites ≡ why = cc in ap (λ (w : Refusal). refusal w buffer) same
+    by-sites (accepted (site ∷ sites)) is = let z : _≡_ {A = ℕ} 0 1 = cc in absurd (omega arith)
     by-sites (refused other) is = let same : other ≡ why = cc in ap (λ (w : Refusal). refusal w buffer) same
 
 -- What writing answers and leaves in the buffer, as the call gives it.
@@ -71,41 +70,19 @@ filled-called sheet buffer filled =
     by-room true = refl
     by-room false = refl
 
--- A list that is read, and placed with a table for every plan.
-module _ (list buffer table : List ℕ) {listed done : Planned} (size : length table ≡ fullTable) (listed-is : listed ≡ readFrom list)
-    (is-read : listed .outcome ≡ Done) (done-is : done ≡ placedIn (listed .plan) table) where
-  -- How placing ends, from the list.
-  ends : {end : Outcome} → done .outcome ≡ end → placedIn (plannedOr started (readList list) .plan) table .outcome ≡ end
-  ends is = ap (λ (p : Planned). placedIn (p .plan) table .outcome) (sym listed-is) ∙ ap outcomeOf (sym done-is) ∙ is
+-- The list is placed, and the plan is written.
+pub write-calls : (list buffer : List ℕ) {done : Planned} {answer : Written} {after : List ℕ} → done ≡ listPlaced (readList list)
+    → done .outcome ≡ Done → answer ≡ written (done .plan) buffer → after ≡ bufferAfter (done .plan) buffer
+    → called list buffer ≡ asCalled answer after
+write-calls list buffer {done} {answer} {after} done-is is answered left =
+    by-sites (readList list) refl (ap outcomeOf (sym done-is) ∙ is)
+  where
+    filled : Filled (outputOf list) buffer answer after
+    filled = sheet-filled buffer (placed-output list done-is is) answered left
 
-  -- Placing is refused: the list has no sites, since no line of a refusal is as long as a sheet.
-  pub place-refuses : {why : Refusal} → done .outcome ≡ Refused why → called list buffer ≡ refusal why buffer
-  unfolding unplaced
-  place-refuses {why} is = by-sites (readList list) refl (ap outcomeOf (sym listed-is) ∙ is-read) (ends is)
-    where
-      by-sites : (sites : Sites) → readList list ≡ sites → plannedOr started sites .outcome ≡ Done
-          → placedIn (plannedOr started sites .plan) table .outcome ≡ Refused why → calledFor sites buffer ≡ refusal why buffer
-      by-sites (refused other) read reads end = let z : _≡_ {A = ℕ} 0 1 = cc in absurd (omega arith)
-      by-sites (accepted []) read reads end = let same : NoSites ≡ why = cc in ap (λ (w : Refusal). refusal w buffer) same
-      by-sites (accepted (site ∷ sites)) read reads end =
-          let line = place-refused list table why size listed-is is-read done-is is in
-          let sheet = output-sheet list (site ∷ sites) read (omega arith) in
-          let short : length (sheetOf (site ∷ sites)) ≤ 14 = rw (← sheet, line) (refusal-short why) in
-          absurd (omega (arith, sheet-shortest (site ∷ sites) (read-listed list (site ∷ sites) read) (omega arith)))
-
-  -- Placing is accepted, and the plan is written.
-  pub write-calls : {answer : Written} {after : List ℕ} → done .outcome ≡ Done → answer ≡ written (done .plan) buffer
-      → after ≡ bufferAfter (done .plan) buffer → called list buffer ≡ asCalled answer after
-  unfolding unplaced
-  write-calls {answer} {after} is answered left = by-sites (readList list) refl (ap outcomeOf (sym listed-is) ∙ is-read) (ends is)
-    where
-      filled : Filled (outputOf list) buffer answer after
-      filled = sheet-filled buffer (place-done list table size listed-is is-read done-is is) answered left
-
-      by-sites : (sites : Sites) → readList list ≡ sites → plannedOr started sites .outcome ≡ Done
-          → placedIn (plannedOr started sites .plan) table .outcome ≡ Done → calledFor sites buffer ≡ asCalled answer after
-      by-sites (refused other) read reads end = let z : _≡_ {A = ℕ} 0 1 = cc in absurd (omega arith)
-      by-sites (accepted []) read reads end = let z : _≡_ {A = ℕ} 0 1 = cc in absurd (omega arith)
-      by-sites (accepted (site ∷ sites)) read reads end =
-          filled-called (sheetOf (site ∷ sites)) buffer
-          (subst (λ (sheet : List ℕ). Filled sheet buffer answer after) (output-sheet list (site ∷ sites) read (omega arith)) filled)
+    by-sites : (sites : Sites) → readList list ≡ sites → listPlaced sites .outcome ≡ Done → calledFor sites buffer ≡ asCalled answer after
+    by-sites (accepted []) read is = let z : _≡_ {A = ℕ} 0 1 = cc in absurd (omega arith)
+    by-sites (accepted (site ∷ sites)) read is =
+        filled-called (sheetOf (site ∷ sites)) buffer
+        (subst (λ (sheet : List ℕ). Filled sheet buffer answer after) (output-sheet list (site ∷ sites) read (omega arith)) filled)
+    by-sites (refused other) read is = let z : _≡_ {A = ℕ} 0 1 = cc in absurd (omega arith)

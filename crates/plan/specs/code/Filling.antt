@@ -25,7 +25,7 @@ use Rattle.plan.specs.rules.Sheet.{sheetOf}
 use Rattle.plan.specs.rules.Plan.{unplaced, placed, sitesIn, sites-unplaced, sites-placed, Valid, is-placed, is-unplaced}
 use Rattle.plan.specs.rules.Calls.{writtenNumber, writtenLength, numberIf, carriedAt, fullTable}
 use Rattle.plan.specs.rules.Calls.{plannedOr, started, readFrom, placedIn, written, writeWhere, filledWhere, bufferAfter}
-use Rattle.plan.specs.rules.Output.{refusalLine, outputFor, outputOf, outputWhere, refusalWritten, refusalAfter, output-sheet}
+use Rattle.plan.specs.rules.Output.{refusalLine, listPlaced, outputFor, outputOf, outputWhere, refusalWritten, refusalAfter, output-sheet}
 use Rattle.plan.specs.rules.Output.{outputWritten, outputNumber, outputAfter}
 use Rattle.plan.specs.Demands.{NoRival, ReadsOff, Demanded, SheetFor}
 use Rattle.plan.specs.theorems.SheetLaws.{no-rival}
@@ -140,69 +140,67 @@ pub filled-output : (text : List ℕ) {buffer after : List ℕ} {answer : Writte
 filled-output text {buffer} {after} {answer} filled =
     (filled .answer-is, (filled .after-is, (filled-demands text answer filled, filled-told filled)))
 
+-- ---- a list, read and placed
+
 -- The answer of a call that hands back a plan.
 abbrev outcomeOf : Planned → Outcome
 outcomeOf p = p .outcome
 
--- Where reading is refused the output is the line of the refusal.
-pub read-refused : (text : List ℕ) (why : Refusal) {listed : Planned} → listed ≡ readFrom text → listed .outcome ≡ Refused why
-    → outputOf text ≡ refusalLine why
-unfolding outputOf
-read-refused text why listed-is is = by-sites (readList text) (ap outcomeOf (sym listed-is) ∙ is)
+-- Where reading is refused, so is the list.
+pub list-refused : (text : List ℕ) {listed : Planned} {why : Refusal} → listed ≡ readFrom text → listed .outcome ≡ Refused why
+    → listed ≡ listPlaced (readList text)
+list-refused text {listed} {why} listed-is is = listed-is ∙ by-sites (readList text) (ap outcomeOf (sym listed-is) ∙ is)
   where
-    by-sites : (sites : Sites) → plannedOr started sites .outcome ≡ Refused why → outputFor sites ≡ refusalLine why
+    by-sites : (sites : Sites) → plannedOr started sites .outcome ≡ Refused why → plannedOr started sites ≡ listPlaced sites
     by-sites (accepted sites) is = let z : _≡_ {A = ℕ} 0 1 = cc in absurd (omega arith)
-    by-sites (refused other) is = let same : other ≡ why = cc in ap refusalLine same
+    by-sites (refused other) is = refl
 
--- A table of 57,600 bytes is enough for the sites of every plan: one that has sites is placed.
-placed-in : (sites : List Site) (table : List ℕ) → Listed sites → 1 ≤ length sites → length table ≡ fullTable
-    → placedIn (unplaced sites) table ≡ record { outcome = Done; plan = placed sites }
-placed-in sites table listed nonempty size =
-    unplaced-placed sites table listed nonempty (omega (arith, mul-le-mul-right (length sites) (listed .few)))
-
--- So where placing is refused the list has no sites, and the output says so.
-pub place-refused : (text table : List ℕ) (why : Refusal) {listed done : Planned} → length table ≡ fullTable
-    → listed ≡ readFrom text → listed .outcome ≡ Done → done ≡ placedIn (listed .plan) table → done .outcome ≡ Refused why
-    → outputOf text ≡ refusalLine why
-unfolding outputOf unplaced
-place-refused text table why size listed-is is-read done-is is =
-    by-sites (readList text) refl (ap outcomeOf (sym listed-is) ∙ is-read)
-    (ap (λ (p : Planned). placedIn (p .plan) table .outcome) (sym listed-is) ∙ ap outcomeOf (sym done-is) ∙ is)
+-- Else it is placed: a table of 57,600 bytes is enough for the sites of every plan.
+pub list-placed : (text table : List ℕ) {listed done : Planned} → length table ≡ fullTable → listed ≡ readFrom text
+    → listed .outcome ≡ Done → done ≡ placedIn (listed .plan) table → done ≡ listPlaced (readList text)
+unfolding unplaced
+list-placed text table size listed-is is-read done-is =
+    done-is ∙ ap (λ (p : Planned). placedIn (p .plan) table) listed-is
+    ∙ by-sites (readList text) refl (ap outcomeOf (sym listed-is) ∙ is-read)
   where
     by-sites : (sites : Sites) → readList text ≡ sites → plannedOr started sites .outcome ≡ Done
-        → placedIn (plannedOr started sites .plan) table .outcome ≡ Refused why → outputFor sites ≡ refusalLine why
-    by-sites (refused other) read is-read is = let z : _≡_ {A = ℕ} 0 1 = cc in absurd (omega arith)
-    by-sites (accepted []) read is-read is = let same : NoSites ≡ why = cc in ap refusalLine same
-    by-sites (accepted (site ∷ sites)) read is-read is =
-        let done = placed-in (site ∷ sites) table (read-listed text (site ∷ sites) read) (omega arith) size in
-        let z : _≡_ {A = ℕ} 0 1 = cc (ap outcomeOf done) in
-        absurd (omega arith)
+        → placedIn (plannedOr started sites .plan) table ≡ listPlaced sites
+    by-sites (refused other) read is-read = let z : _≡_ {A = ℕ} 0 1 = cc in absurd (omega arith)
+    by-sites (accepted []) read is-read = refl
+    by-sites (accepted (site ∷ sites)) read is-read =
+        let listed = read-listed text (site ∷ sites) read in
+        unplaced-placed (site ∷ sites) table listed (omega arith) (omega (arith, mul-le-mul-right (length (site ∷ sites)) (listed .few)))
+
+-- Where a list is refused the output is the line of the refusal.
+pub refused-output : (text : List ℕ) {done : Planned} {why : Refusal} → done ≡ listPlaced (readList text) → done .outcome ≡ Refused why
+    → outputOf text ≡ refusalLine why
+unfolding outputOf
+refused-output text {done} {why} done-is is = by-sites (readList text) (ap outcomeOf (sym done-is) ∙ is)
+  where
+    by-sites : (sites : Sites) → listPlaced sites .outcome ≡ Refused why → outputFor sites ≡ refusalLine why
+    by-sites (accepted []) is = let same : NoSites ≡ why = cc in ap refusalLine same
+    by-sites (accepted (site ∷ sites)) is = let z : _≡_ {A = ℕ} 0 1 = cc in absurd (omega arith)
+    by-sites (refused other) is = let same : other ≡ why = cc in ap refusalLine same
 
 -- A plan whose sheet is the output for a text.
 pub record PlanOf (text : List ℕ) (plan : Plan) : Type 0 where
   pub is-placed : plan .placed ≡ true
   pub sheet-is : sheetOf (sitesIn plan) ≡ outputOf text
 
--- Where placing is accepted its plan is one.
-pub place-done : (text table : List ℕ) {listed done : Planned} → length table ≡ fullTable → listed ≡ readFrom text → listed .outcome ≡ Done
-    → done ≡ placedIn (listed .plan) table → done .outcome ≡ Done → PlanOf text (done .plan)
-unfolding unplaced placed
-place-done text table {listed} {done} size listed-is is-read done-is is =
-    let whole-is : done ≡ placedIn (readFrom text .plan) table = done-is ∙ ap (λ (p : Planned). placedIn (p .plan) table) listed-is in
-    subst (λ (p : Planned). PlanOf text (p .plan)) (sym whole-is)
-    (by-sites (readList text) refl (ap outcomeOf (sym listed-is) ∙ is-read) (ap outcomeOf (sym whole-is) ∙ is))
+-- Where it is placed, its plan is one.
+pub placed-output : (text : List ℕ) {done : Planned} → done ≡ listPlaced (readList text) → done .outcome ≡ Done → PlanOf text (done .plan)
+unfolding outputOf placed
+placed-output text {done} done-is is =
+    rw done-is (by-sites (readList text) refl (ap outcomeOf (sym done-is) ∙ is))
   where
-    by-sites : (sites : Sites) → readList text ≡ sites → plannedOr started sites .outcome ≡ Done
-        → placedIn (plannedOr started sites .plan) table .outcome ≡ Done → PlanOf text (placedIn (plannedOr started sites .plan) table .plan)
-    by-sites (refused other) read is-read is = let z : _≡_ {A = ℕ} 0 1 = cc in absurd (omega arith)
-    by-sites (accepted []) read is-read is = let z : _≡_ {A = ℕ} 0 1 = cc in absurd (omega arith)
-    by-sites (accepted (site ∷ sites)) read is-read is =
-        let listed = read-listed text (site ∷ sites) read in
-        subst (λ (p : Planned). PlanOf text (p .plan)) (sym (placed-in (site ∷ sites) table listed (omega arith) size))
-        (record {
+    by-sites : (sites : Sites) → readList text ≡ sites → listPlaced sites .outcome ≡ Done → PlanOf text (listPlaced sites .plan)
+    by-sites (accepted []) read is = let z : _≡_ {A = ℕ} 0 1 = cc in absurd (omega arith)
+    by-sites (accepted (site ∷ sites)) read is =
+        record {
           is-placed = refl;
           sheet-is = ap sheetOf (sites-placed (site ∷ sites)) ∙ sym (output-sheet text (site ∷ sites) read (omega arith));
-        })
+        }
+    by-sites (refused other) read is = let z : _≡_ {A = ℕ} 0 1 = cc in absurd (omega arith)
 
 -- Where the output is the line of a refusal, writing that line fills the buffer with the output.
 pub refusal-filled : (text : List ℕ) (why : Refusal) (buffer : List ℕ) {after : List ℕ} {answer : Written} → outputOf text ≡ refusalLine why

@@ -7,8 +7,10 @@ use Prim.Native.Nat.{ℕ, _≤_}
 use native.Mathlib.Omega.{arith}
 use lib.Dec.{ltb}
 use lib.ListN.{length}
+use Rattle.plan.specs.declared.plan.Planned.{Planned}
 use Rattle.plan.specs.declared.plan.Written.{Written}
 use Rattle.plan.specs.declared.plan.Written.the-variants.{Bytes, NotWritten}
+use Rattle.plan.specs.declared.refusal.Outcome.the-variants.{Done, Refused}
 use Rattle.plan.specs.declared.refusal.Refusal.{Refusal}
 use Rattle.plan.specs.declared.refusal.Refusal.the-variants.{NoSites, ShortBuffer}
 use Rattle.plan.specs.rules.Refusal.{numberOf}
@@ -18,7 +20,8 @@ use Rattle.plan.specs.rules.Site.{Site}
 use Rattle.plan.specs.rules.Enter.{Sites, accepted, refused}
 use Rattle.plan.specs.rules.List.{readList}
 use Rattle.plan.specs.rules.Sheet.{sheetOf}
-use Rattle.plan.specs.rules.Calls.{numberIf, filledWhere}
+use Rattle.plan.specs.rules.Plan.{placed}
+use Rattle.plan.specs.rules.Calls.{started, numberIf, filledWhere}
 
 -- The word refused.
 abbrev pub refusedWord : List ℕ
@@ -32,7 +35,14 @@ numberLine number = refusedWord ++ (tab ∷ decimal number) ++ (lineFeed ∷ [])
 unfoldable pub refusalLine : Refusal → List ℕ
 refusalLine why = numberLine (numberOf why)
 
--- The output for what a list was read as: its sheet, or the refusal. A list of no sites cannot be placed.
+-- What placing makes of a list that was read: the plan of its sites, placed. A list of no sites cannot be placed; where it is
+-- refused the plan is empty.
+abbrev pub listPlaced : Sites → Planned
+listPlaced (accepted []) = record { outcome = Refused NoSites; plan = started }
+listPlaced (accepted (site ∷ sites)) = record { outcome = Done; plan = placed (site ∷ sites) }
+listPlaced (refused why) = record { outcome = Refused why; plan = started }
+
+-- The output for what a list was read as: its sheet, or the refusal.
 abbrev pub outputFor : Sites → List ℕ
 outputFor (accepted []) = refusalLine NoSites
 outputFor (accepted (site ∷ sites)) = sheetOf (site ∷ sites)

@@ -1,0 +1,45 @@
+-- `plan::output::place_list` meets its contract: the list is refused, or its plan is placed with a table that is enough for every plan.
+-- Assumes nothing.
+use borrow.Author.Needs.{needs}
+use mathlib.Core.List.{List}
+use Prim.Native.Nat.{ℕ}
+use lib.ListN.{replicate, length-replicate}
+use denote.Ref.{now}
+use Rattle.plan.specs.rules.Calls.{fullTable}
+use Rattle.plan.specs.code.Filling.{list-refused, list-placed}
+use Rattle.plan.proofs.output.place_list.Statement.{statement}
+use Rattle.plan.proofs.output.place_list.Tie as tie
+
+read-requires : tie.Need-read-requires
+read-requires c κs = search needs
+
+enum-told : tie.Need-enum-told
+enum-told c = search needs
+
+returns : tie.Need-returns
+returns c =
+    let listed = c .before .before in
+    (list-refused (now (listed .before .before .args .text)) (listed .read .ensures .0) (c .enum-told .given .1), listed .read .ensures .1 .0)
+
+enum-told-2 : tie.Need-enum-told-2
+enum-told-2 c = search needs
+
+slice-aggregate-place : tie.Need-slice-aggregate-place
+slice-aggregate-place c = search needs
+
+place-requires : tie.Need-place-requires
+place-requires c κs = search needs
+
+returns-2 : tie.Need-returns-2
+returns-2 c =
+    let read-done = c .before .before .before .before in
+    let listed = read-done .before .before in (
+      list-placed (now (listed .before .before .args .text)) (replicate fullTable 0) (length-replicate {A = ℕ} fullTable 0)
+          (listed .read .ensures .0) (read-done .enum-told2 .given .1) (c .before .place .ensures .0),
+      c .before .place .ensures .1 .1 .0,
+    )
+
+pub place-list-spec : {M : Type 1} → statement M
+place-list-spec =
+    tie.close
+    (tie.spec read-requires enum-told returns enum-told-2 slice-aggregate-place place-requires returns-2)

@@ -46,22 +46,11 @@ pub fn place(plan: Plan, table: &mut [u8]) -> Planned
     if table.len() < n * n {
         return refuse(plan, Refusal::ShortTable);
     }
-    let names = plan.names;
     let places = plan.places;
     let answer = place_labels(places, n, table);
-    let side = answer.side;
-    let corners = answer.corners;
-    let placed = Plan {
-        count: n,
-        names,
-        places,
-        placed: true,
-        side,
-        corners,
-    };
     Planned {
         outcome: Outcome::Done,
-        plan: placed,
+        plan: Plan::answered(plan, answer),
     }
 }
 

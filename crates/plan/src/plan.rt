@@ -5,6 +5,7 @@ use crate::name::same_name;
 use crate::number::PlaceRead;
 use crate::refusal::Outcome;
 use crate::refusal::Refusal;
+use placing::side::Placed;
 use placing::units::Limits;
 use placing::units::Place;
 use placing::units::Side;
@@ -15,7 +16,7 @@ ghost use Rattle.placing.specs.rules.Units.{samePlace};
 ghost use Rattle.plan.specs.rules.Name.{bytesOf, mostNameBytes};
 ghost use Rattle.plan.specs.rules.Plan.{sitesIn, Valid};
 ghost use Rattle.plan.specs.rules.Calls.{started, plannedOr};
-ghost use Rattle.plan.specs.code.PlanLaws.{unplacedOf};
+ghost use Rattle.plan.specs.code.PlanLaws.{unplacedOf, placedOf};
 ghost use Rattle.plan.specs.code.Taken.{ShortNames, namesTaken, placesTaken};
 ghost use Rattle.plan.specs.code.Entering.{NameFits, PlaceFits, enteredRead, firstFailed};
 ghost use Rattle.placing.specs.rules.Units.{mostSites};
@@ -80,6 +81,24 @@ impl Plan {
             placed: false,
             side: Side::Free,
             corners: [0u8; Limits::SITES],
+        }
+    }
+
+    // The plan with its answer.
+    pub(crate) fn answered(plan: Plan, answer: Placed) -> Plan
+        ensures { λ r. ⌜ r ≡ placedOf (plan .count) (plan .names) (plan .places) answer ⌝ }
+    {
+        let names = plan.names;
+        let places = plan.places;
+        let side = answer.side;
+        let corners = answer.corners;
+        Plan {
+            count: plan.count,
+            names,
+            places,
+            placed: true,
+            side,
+            corners,
         }
     }
 }

@@ -1,4 +1,5 @@
 -- `place` meets its contract: the plan holds its sites, whose places may be placed. Assumes nothing.
+use mathlib.Core.Path.{_∙_}
 use Prim.Native.Nat.{_≤_}
 use native.Mathlib.Nat.{mul-le-mul}
 use native.Mathlib.Omega.{arith}
@@ -38,21 +39,25 @@ returns-2 c =
 
 place-labels-requires : tie.Need-place-labels-requires
 place-labels-requires c κs =
-    let second = c .before .before .before in
+    let second = c .before .before in
     let start = second .before .before .before in
     holding-may (valid-holding (start .pre)) (now (start .args .table)) (second .before .if1 .left) (second .if2 .left)
 
 same-length : tie.Need-same-length
 same-length c = search needs
 
+answered-requires : tie.Need-answered-requires
+answered-requires c κs = search needs
+
 returns-3 : tie.Need-returns-3
 returns-3 c =
     let call = c .before .before .before in
-    let second = call .before .before .before .before in
+    let second = call .before .before .before in
     let start = second .before .before .before in
     let holding = valid-holding (start .pre) in
     place-accepts (start .args .plan) (now (start .args .table)) holding (second .before .if1 .left) (second .if2 .left)
-    (holding-placed holding (call .place-labels .result) (call .place-labels .ensures .0)) (call .place-labels .ensures .1)
+    (c .answered .ensures ∙ holding-placed holding (call .place-labels .result) (call .place-labels .ensures .0))
+    (call .place-labels .ensures .1)
 
 pub place-spec : {M : Type 1} → statement M
 place-spec =
@@ -64,5 +69,6 @@ place-spec =
     refuse-requires-2
     returns-2
     place-labels-requires
+    answered-requires
     same-length
     returns-3)

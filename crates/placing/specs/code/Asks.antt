@@ -2,7 +2,6 @@
 -- Assumes nothing.
 use mathlib.Core.Path.{_≡_}
 use mathlib.Core.List.{List}
-use mathlib.Core.Logic.{_≢_}
 use Prim.Native.Nat.{ℕ, _≤_, _<_}
 use lib.ListN.{length, getD}
 use Rattle.placing.specs.declared.units.HalfUnits.{HalfUnits}
@@ -16,12 +15,11 @@ use Rattle.placing.specs.search.State.{Underway, Closed, Walked}
 use Rattle.placing.specs.search.Labels.{labels}
 use Rattle.placing.specs.code.Ways.{rowOf, Sizes, Settled, AllSettled}
 
--- Carrying the decision c of site k to another site j.
+-- Carrying the decision c of site k to site j.
 pub record MayCarryTo (xs ys : List ℕ) (side : HalfUnits) (ways decided : List ℕ) (k c j : ℕ) : Type 0 where
   pub judged : Judged side
   pub from : HasPlace xs ys k
   pub to : HasPlace xs ys j
-  pub different : j ≢ k
   pub sizes : Sizes ways decided
   pub corner : Corner c
   pub is-decided : c ≡ cornerAt decided k

@@ -12,7 +12,7 @@ use lib.ListN.{getD}
 use Rattle.placing.specs.rules.Choice.{cornerAt}
 use Rattle.placing.specs.search.Problem.{Problem, Solution}
 use Rattle.placing.specs.search.State.{Refused, Walked}
-use Rattle.placing.specs.search.Walk.{refused-closed, walk-takes, walk-stuck}
+use Rattle.placing.specs.search.Walk.{refused-closed, walk-decided-add-one, walk-takes, walk-stuck}
 use Rattle.placing.specs.code.Ways.{rowOf, Tried, WalkedTo, Sizes}
 
 -- The byte of corner e + 1 of site i.
@@ -53,6 +53,16 @@ tried-shut {P} {ways} {decided} {i} e sizes listed h shut =
       closed = λ o. absurd (true≢false (sym o));
       onward = λ o. absurd (true≢false (sym o));
       refused = λ o. refused-closed listed (λ is-open. shut (sym (row-next ways i e h) ∙ is-open));
+    }
+
+-- A decided site is passed over.
+pub passes-over : {P : Problem} {ways decided : List ℕ} {i : ℕ} → Sizes ways decided → Walked P i (rowOf ways) (cornerAt decided) → i < P .n
+    → cornerAt decided i ≢ 0 → WalkedTo P (i + 1) true ways decided
+passes-over sizes walked listed is-decided =
+    record {
+      sizes = sizes;
+      walked = λ o. walk-decided-add-one walked listed is-decided;
+      no-solution = λ o. absurd (true≢false o);
     }
 
 -- The first corner whose trial does not fail is taken.

@@ -1,13 +1,11 @@
 -- `placing::choice::walk` meets its contract: the walk has come to site i, by the laws of `specs/search/Walk`.
 -- Assumes nothing.
 use Prim.Native.Nat.{_≤_, _-_}
-use mathlib.Core.Logic.{⊎-elim}
 use native.Mathlib.Omega.{arith}
 use borrow.Author.Needs.{needs}
 use borrow.Author.Tests.{not-true, not-false}
 use Rattle.placing.specs.rules.Choice.{cornerAt}
 use Rattle.placing.specs.search.State.{Walked}
-use Rattle.placing.specs.search.Walk.{walk-decided-add-one}
 use Rattle.placing.specs.search.Labels.{labels}
 use Rattle.placing.specs.code.Ways.{Kept, Sizes, rowOf}
 use Rattle.placing.specs.code.Marks.{kept-same, kept-twice}
@@ -26,23 +24,18 @@ abbrev μ-loop : tie.MeasureT-loop
 loop-holds : tie.Need-loop-holds Inv-loop μ-loop
 loop-holds c = (search needs, kept-same, c .before .pre .sizes, c .before .pre .walked)
 
-element-copy-out-if1 : tie.Need-element-copy-out-if1 Inv-loop μ-loop
-element-copy-out-if1 c = search needs
-
 choose-corner-requires : tie.Need-choose-corner-requires Inv-loop μ-loop
 choose-corner-requires c κs =
-    let at-loop = c .before .before .before .before in
-    let may = at-loop .before .before .pre in
-    record {
-      walking = record {
+    let at-loop = c .before .before in
+    let may = at-loop .before .before .pre in (
+      record {
         held = may .held;
         sizes = at-loop .loop .inv .2;
         room = rw (at-loop .loop .inv .1 .size) (may .room);
         walked = at-loop .loop .inv .3;
-      };
-      listed = omega arith;
-      undecided = c .before .if1 .taken;
-    }
+      },
+      c .before .loop-test .taken,
+    )
 
 same-length : tie.Need-same-length Inv-loop μ-loop
 same-length c = search needs
@@ -50,8 +43,8 @@ same-length c = search needs
 returns : tie.Need-returns Inv-loop μ-loop
 returns c =
     let at-choose = c .before .before .before .before in
-    let at-loop = at-choose .before .before .before .before .before in (
-      walk-over _ (not-true _ (c .if2 .taken)) (at-choose .choose-corner .ensures .0),
+    let at-loop = at-choose .before .before .before in (
+      walk-over _ (not-true _ (c .if1 .taken)) (at-choose .choose-corner .ensures .0),
       kept-twice (at-loop .loop .inv .1) (at-choose .choose-corner .ensures .1),
     )
 
@@ -63,22 +56,14 @@ loop-less c = search needs
 
 loop-again : tie.Need-loop-again Inv-loop μ-loop
 loop-again c =
-    let at-loop = c .before .before .before in
-    let before = at-loop .loop .inv in
-    ⊎-elim
-    (λ w. rw (w .8, w .9) ((
+    let went-on = c .before in
+    let at-choose = went-on .before .before .before .before in
+    let next = at-choose .choose-corner .ensures in (
       omega arith,
-      kept-twice (before .1) (w .2 .ensures .1),
-      w .2 .ensures .0 .sizes,
-      w .2 .ensures .0 .walked (not-false _ (w .6 .left)),
-    )))
-    (λ w. rw (w .1, w .2) ((
-      omega arith,
-      before .1,
-      before .2,
-      walk-decided-add-one (before .3) (omega arith) (w .0 .left),
-    )))
-    (c .if1 .came)
+      kept-twice (at-choose .before .before .before .loop .inv .1) (next .1),
+      next .0 .sizes,
+      next .0 .walked (not-false _ (went-on .if1 .left)),
+    )
 
 same-length-2 : tie.Need-same-length-2 Inv-loop μ-loop
 same-length-2 c = search needs
@@ -97,7 +82,6 @@ walk-spec =
     Inv-loop
     μ-loop
     loop-holds
-    element-copy-out-if1
     choose-corner-requires
     same-length
     returns

@@ -86,16 +86,18 @@ fn walk(
         (r .ok) (r .state .ways) (r .state .decided) ⌝ }
     ensures kept { λ r. ⌜ Kept n (now (marks .entry)) (now (marks .exit)) ⌝ }
 {
-    let mut state = start;
+    let mut walked = Attempt {
+        ok: true,
+        state: start,
+    };
     for i in 0..n {
-        let next = choose_corner(xs, ys, n, side, state, marks, i);
-        if !next.ok {
-            return next;
+        let state = walked.state;
+        walked = choose_corner(xs, ys, n, side, state, marks, i);
+        if !walked.ok {
+            return walked;
         }
-        let reached = next.state;
-        state = reached;
     }
-    Attempt { ok: true, state }
+    walked
 }
 
 // The first good choice at a side, or none.

@@ -1,6 +1,6 @@
 -- One site of the walk: its corners are tried from the lowest up, until a trial does not fail.
 -- Assumes nothing.
-use mathlib.Core.Path.{_≡_, refl, sym, _∙_, ap, subst}
+use mathlib.Core.Path.{_≡_, refl, sym, _∙_, ap}
 use mathlib.Core.Bool.{Bool, true, false, true≢false}
 use mathlib.Core.List.{List}
 use mathlib.Core.Logic.{_≢_}
@@ -12,7 +12,7 @@ use lib.ListN.{getD}
 use Rattle.placing.specs.rules.Choice.{cornerAt}
 use Rattle.placing.specs.search.Problem.{Problem, Solution}
 use Rattle.placing.specs.search.State.{Refused, Walked}
-use Rattle.placing.specs.search.Walk.{refused-closed, walk-decided-add-one, walk-takes, walk-stuck}
+use Rattle.placing.specs.search.Walk.{refused-closed, walk-takes, walk-stuck}
 use Rattle.placing.specs.code.Ways.{rowOf, Tried, WalkedTo, Sizes}
 
 -- The byte of corner e + 1 of site i.
@@ -55,16 +55,6 @@ tried-shut {P} {ways} {decided} {i} e sizes listed h shut =
       refused = λ o. refused-closed listed (λ is-open. shut (sym (row-next ways i e h) ∙ is-open));
     }
 
--- A decided site is passed over.
-pub passes-over : {P : Problem} {ways decided : List ℕ} {i : ℕ} → Sizes ways decided → Walked P i (rowOf ways) (cornerAt decided) → i < P .n
-    → cornerAt decided i ≢ 0 → WalkedTo P (i + 1) true ways decided
-passes-over sizes walked listed is-decided =
-    record {
-      sizes = sizes;
-      walked = λ o. walk-decided-add-one walked listed is-decided;
-      no-solution = λ o. absurd (true≢false o);
-    }
-
 -- The first corner whose trial does not fail is taken.
 pub takes-corner : {P : Problem} {ways decided ways′ decided′ : List ℕ} {i : ℕ} (e : ℕ) {ok : Bool} → Walked P i (rowOf ways) (cornerAt decided)
     → i < P .n → cornerAt decided i ≡ 0 → RefusedUpTo P ways i e → Tried P ways decided i (e + 1) ok ways′ decided′ → ok ≡ true
@@ -97,12 +87,7 @@ walk-over n failed walked =
       no-solution = walked .no-solution;
     }
 
--- A walk past all sites.
-pub walked-all : {P : Problem} {i : ℕ} {ways decided : List ℕ} → i ≡ P .n → Sizes ways decided → Walked P i (rowOf ways) (cornerAt decided)
-    → WalkedTo P (P .n) true ways decided
-walked-all {P} {i} {ways} {decided} end sizes walked =
-    record {
-      sizes = sizes;
-      walked = λ o. subst (λ (k : ℕ). Walked P k (rowOf ways) (cornerAt decided)) end walked;
-      no-solution = λ o. let z : _≡_ {A = ℕ} 0 1 = cc in absurd (omega arith);
-    }
+-- A walk that has come to site i.
+pub walked-to : {P : Problem} {i : ℕ} {ways decided : List ℕ} → Sizes ways decided → Walked P i (rowOf ways) (cornerAt decided)
+    → WalkedTo P i true ways decided
+walked-to sizes walked = record { sizes = sizes; walked = λ o. walked; no-solution = λ o. absurd (true≢false o) }

@@ -4,10 +4,11 @@
 use native.Mathlib.Omega.{arith}
 use Prim.Native.Nat.{_≤_, _-_}
 use borrow.Author.Needs.{needs}
+use Rattle.placing.specs.search.Walk.{walk-decided-add-one}
 use Rattle.placing.specs.search.Labels.{labels}
 use Rattle.placing.specs.code.Ways.{Kept}
 use Rattle.placing.specs.code.Marks.{kept-same, kept-twice}
-use Rattle.placing.specs.code.Walking.{RefusedUpTo, refused-none, refused-more, passes-over, takes-corner, takes-none}
+use Rattle.placing.specs.code.Walking.{RefusedUpTo, refused-none, refused-more, takes-corner, takes-none, walked-to}
 use Rattle.placing.proofs.choice.choose_corner.Statement.{statement}
 use Rattle.placing.proofs.choice.choose_corner.Tie as tie
 
@@ -24,7 +25,7 @@ element-copy-out-if1 c = search needs
 returns : tie.Need-returns Inv-loop μ-loop
 returns c =
     let may = c .before .before .before .pre in
-    (passes-over (may .0 .sizes) (may .0 .walked) (may .1) (c .if1 .taken), kept-same)
+    (walked-to (may .0 .sizes) (walk-decided-add-one (may .0 .walked) (may .1) (c .if1 .taken)), kept-same)
 
 loop-holds : tie.Need-loop-holds Inv-loop μ-loop
 loop-holds c = (search needs, kept-same, refused-none _ (c .before .before .before .pre .1))

@@ -45,7 +45,7 @@ fn try_open(
     Attempt { ok: false, state }
 }
 
-// Decides site `i` by its lowest open corner whose trial does not fail. No where all fail.
+// Decides site `i`, where it is not decided yet, by its lowest open corner whose trial does not fail. No where all fail.
 fn choose_corner(
     xs: &[u32; Limits::SITES],
     ys: &[u32; Limits::SITES],
@@ -55,11 +55,14 @@ fn choose_corner(
     marks: &mut [u8],
     i: usize,
 ) -> Attempt
-    requires { ⌜ MayDecide n (now xs) (now ys) side (state .ways) (state .decided) (now marks) i ⌝ }
+    requires { ⌜ MayWalk n (now xs) (now ys) side (state .ways) (state .decided) (now marks) i × (i < n) ⌝ }
     ensures walked { λ r. ⌜ WalkedTo (labels (side .0) n (now (xs .entry)) (now (ys .entry))) (i + 1)
         (r .ok) (r .state .ways) (r .state .decided) ⌝ }
     ensures kept { λ r. ⌜ Kept n (now (marks .entry)) (now (marks .exit)) ⌝ }
 {
+    if state.decided[i] != 0 {
+        return Attempt { ok: true, state };
+    }
     for e in 0..4 {
         let tried = try_open(xs, ys, n, side, state, marks, i, e);
         if tried.ok {
@@ -83,18 +86,18 @@ fn walk(
         (r .ok) (r .state .ways) (r .state .decided) ⌝ }
     ensures kept { λ r. ⌜ Kept n (now (marks .entry)) (now (marks .exit)) ⌝ }
 {
-    let mut state = start;
+    let mut walked = Attempt {
+        ok: true,
+        state: start,
+    };
     for i in 0..n {
-        if state.decided[i] == 0 {
-            let next = choose_corner(xs, ys, n, side, state, marks, i);
-            if !next.ok {
-                return next;
-            }
-            let reached = next.state;
-            state = reached;
+        let state = walked.state;
+        walked = choose_corner(xs, ys, n, side, state, marks, i);
+        if !walked.ok {
+            return walked;
         }
     }
-    Attempt { ok: true, state }
+    walked
 }
 
 // The first good choice at a side, or none.

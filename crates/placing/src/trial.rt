@@ -9,12 +9,13 @@ use crate::units::Limits;
 ghost use mathlib.Core.Path.{_≡_};
 ghost use Prim.Native.Nat.{ℕ, _≤_, _<_};
 ghost use lib.ListN.{length, set};
-ghost use Rattle.placing.specs.rules.Units.{mostSites};
+ghost use Rattle.placing.specs.rules.Units.{mostSites, Judged};
 ghost use Rattle.placing.specs.rules.Corner.{Corner};
 ghost use Rattle.placing.specs.search.Rows.{rowAt};
 ghost use Rattle.placing.specs.code.Labels.{labels};
 ghost use Rattle.placing.specs.rules.Decides.{Decides};
-ghost use Rattle.placing.specs.code.Ways.{oneOrMore, LeftIs, Sizes, TakenCorner, ClosedCorner, CarriedThere, CarriedOut, Waits, FirstWaiting, Kept, markOf, Marked, CarriedOn, Tried};
+ghost use Rattle.placing.specs.code.Sites.{HasPlace};
+ghost use Rattle.placing.specs.code.Ways.{oneOrMore, LeftIs, Sizes, TakenCorner, ClosedCorner, Clash, CarriedThere, CarriedOut, Waits, FirstWaiting, Kept, markOf, Marked, CarriedOn, Tried};
 ghost use Rattle.placing.specs.code.Asks.{MayCarryTo, MayCarryOut, MayCarryOn, MayTry};
 
 // Which corners of a site are open: nothing, one, or more.
@@ -86,7 +87,26 @@ fn close_corner(
     }
 }
 
-// Carries the decision `c` of site `k` to site `j`: only its corner `c` can meet an uncrowded label at corner `c`.
+// The labels of sites `k` and `j` at corner `c` clash: they are two sites, and their labels meet.
+fn clash(
+    xs: &[u32; Limits::SITES],
+    ys: &[u32; Limits::SITES],
+    side: HalfUnits,
+    k: usize,
+    c: u8,
+    j: usize,
+) -> bool
+    requires { ⌜ HasPlace (now xs) (now ys) k × HasPlace (now xs) (now ys) j × Corner c × Judged side ⌝ }
+    ensures { λ r. ⌜ Decides r (Clash (side .0) (now (xs .entry)) (now (ys .entry)) k c j) ⌝ }
+{
+    if j == k {
+        return false;
+    }
+    meet(side, place_of(xs[k], ys[k]), c, place_of(xs[j], ys[j]), c)
+}
+
+// Carries the decision `c` of site `k` to site `j`: only its corner `c` can meet an uncrowded label at corner `c`. Site `k` itself
+// stays as it is.
 fn carry_to(
     xs: &[u32; Limits::SITES],
     ys: &[u32; Limits::SITES],
@@ -103,9 +123,7 @@ fn carry_to(
 {
     let e = 4 * j + (c as usize - 1);
     if ways[e] == 1 {
-        let s = place_of(xs[k], ys[k]);
-        let t = place_of(xs[j], ys[j]);
-        if meet(side, s, c, t, c) {
+        if clash(xs, ys, side, k, c, j) {
             return close_corner(ways, decided, j, c);
         }
     }
@@ -128,10 +146,8 @@ fn carry_out(
 {
     let c = decided[k];
     for j in 0..n {
-        if j != k {
-            if !carry_to(xs, ys, side, ways, decided, k, c, j) {
-                return false;
-            }
+        if !carry_to(xs, ys, side, ways, decided, k, c, j) {
+            return false;
         }
     }
     true

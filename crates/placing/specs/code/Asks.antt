@@ -21,17 +21,16 @@ use Rattle.placing.specs.code.Ways.{Sizes, Settled, AllSettled}
 pub record OnlyEqual (xs ys : List ℕ) (side : HalfUnits) (ways : List ℕ) (k c j : ℕ) : Type 0 where
   pub equal : (e : ℕ) → rowOf ways j e ≡ 1 → MeetAt (side .0) xs ys k c j e → e ≡ c
 
--- Carrying the decision c of site k to another site j.
+-- Carrying the decision c of site k to site j.
 pub record MayCarryTo (xs ys : List ℕ) (side : HalfUnits) (ways decided : List ℕ) (k c j : ℕ) : Type 0 where
   pub judged : Judged side
   pub from : HasPlace xs ys k
   pub to : HasPlace xs ys j
-  pub different : j ≢ k
   pub sizes : Sizes ways decided
   pub corner : Corner c
   pub is-decided : c ≡ cornerAt decided k
   pub settled : Settled ways decided j
-  pub only-equal : OnlyEqual xs ys side ways k c j
+  pub only-equal : j ≢ k → OnlyEqual xs ys side ways k c j
 
 -- Carrying out the decision of site k.
 pub record MayCarryOut (n : ℕ) (xs ys : List ℕ) (side : HalfUnits) (ways decided : List ℕ) (k : ℕ) : Type 0 where

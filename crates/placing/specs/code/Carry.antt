@@ -3,7 +3,7 @@
 use mathlib.Core.Path.{_≡_, refl, sym, ap, _∙_}
 use mathlib.Core.Bool.{Bool, true, false, true≢false}
 use mathlib.Core.List.{List, [], _∷_}
-use mathlib.Core.Logic.{_≢_, _⊎_, inl, inr, ⊎-elim}
+use mathlib.Core.Logic.{_≢_, Ne·symm, _⊎_, inl, inr, ⊎-elim}
 use Prim.Native.Nat.{ℕ, zero, suc, _+_, _-_, _*_, _≤_, _<_}
 use native.Mathlib.Decide.{ℕ-discrete}
 use native.Mathlib.Omega.{arith}
@@ -12,15 +12,14 @@ use lib.Seq.{getD-set-same, getD-set-other}
 use Rattle.placing.specs.declared.units.HalfUnits.{HalfUnits}
 use Rattle.placing.specs.rules.Corner.{Corner}
 use Rattle.placing.specs.rules.Units.{mostSites}
-use Rattle.placing.specs.rules.Meet.{Meet}
-use Rattle.placing.specs.code.Sites.{placeAt, held-place}
+use Rattle.placing.specs.code.Sites.{held-place}
 use Rattle.placing.specs.rules.Choice.{cornerAt}
 use Rattle.placing.specs.search.Problem.{Problem}
 use Rattle.placing.specs.search.Rows.{rowOf, row-zero, row-at, row-written, row-kept, row-elsewhere}
 use Rattle.placing.specs.search.State.{TwoOpen, CarriedTo}
 use Rattle.placing.specs.code.Labels.{labels}
 use Rattle.placing.specs.code.Asks.{MayCarryTo, MayCarryOut}
-use Rattle.placing.specs.code.Ways.{Sizes, Lone, NoneOpen, SomeOpen, TakenCorner, ClosedCorner, Settled, CarriedThere, CarriedOut}
+use Rattle.placing.specs.code.Ways.{Sizes, Lone, NoneOpen, SomeOpen, TakenCorner, ClosedCorner, Settled, Clash, CarriedThere, CarriedOut}
 
 -- The bytes with corner c of site j written as v.
 abbrev written : List ℕ → ℕ → ℕ → ℕ → List ℕ
@@ -144,16 +143,18 @@ module _ (ways decided : List ℕ) (j c : ℕ) (sizes : Sizes ways decided) (lis
 
 module _ (P : Problem) (ways decided : List ℕ) (k j : ℕ) (settled : Settled ways decided j) where
   -- Where no open corner of site j is in conflict, nothing is to be done.
-  carried-same : Sizes ways decided → ((e : ℕ) → rowOf ways j e ≡ 1 → P .Conflict k (cornerAt decided k) j e → ⊥)
+  carried-same : Sizes ways decided → (j ≢ k → (e : ℕ) → rowOf ways j e ≡ 1 → P .Conflict k (cornerAt decided k) j e → ⊥)
       → CarriedThere P ways decided k j true ways decided
   carried-same sizes apart =
       record {
         sizes = sizes;
         elsewhere = λ i different. refl;
         decided-elsewhere = λ i different. refl;
-        carried = λ e. record {
+        own = refl;
+        own-decided = refl;
+        carried = λ e different. record {
           closes = λ e h. h;
-          apart = apart;
+          apart = apart different;
           keeps = λ e h. inl h;
           stays-decided = λ h. refl;
           stays-open = λ h. settled .settled h .is-open;
@@ -161,20 +162,24 @@ module _ (P : Problem) (ways decided : List ℕ) (k j : ℕ) (settled : Settled 
           decides-alone = λ e free taken. absurd (taken free);
           two-left = λ e free was-open now-shut. absurd (now-shut was-open);
         };
+        stuck-other = λ e. absurd (true≢false e);
         stuck = λ e. absurd (true≢false e);
       }
 
   -- Where corner c of site j is closed, the only open one in conflict, the decision is carried there.
-  carried-closed : (c : ℕ) (ok : Bool) (ways′ decided′ : List ℕ) → rowOf ways j c ≡ 1 → P .Conflict k (cornerAt decided k) j c
+  carried-closed : (c : ℕ) (ok : Bool) (ways′ decided′ : List ℕ) → j ≢ k → rowOf ways j c ≡ 1 → P .Conflict k (cornerAt decided k) j c
       → ((e : ℕ) → rowOf ways j e ≡ 1 → P .Conflict k (cornerAt decided k) j e → e ≡ c)
       → ClosedCorner ways decided j c ok ways′ decided′
       → CarriedThere P ways decided k j ok ways′ decided′
-  carried-closed c ok ways′ decided′ was-open conflict only closed =
+  carried-closed c ok ways′ decided′ different was-open conflict only closed =
       record {
         sizes = closed .sizes;
         elsewhere = closed .elsewhere;
         decided-elsewhere = closed .decided-elsewhere;
-        carried = λ yes-ok. carried (closed .some-left yes-ok);
+        own = closed .elsewhere k (Ne·symm different);
+        own-decided = closed .decided-elsewhere k (Ne·symm different);
+        carried = λ yes-ok other. carried (closed .some-left yes-ok);
+        stuck-other = λ no-ok. different;
         stuck = λ no-ok e h. ⊎-elim (λ still. absurd (closed .none-left no-ok .none-open e still)) (λ x. x) (keeps e h);
       }
     where
@@ -237,25 +242,25 @@ module _ (xs ys : List ℕ) (side : HalfUnits) (ways decided : List ℕ) (k c j 
     (may : MayCarryTo xs ys side ways decided k c j) where
   -- Carrying the decision c of site k to site j: its open corner c meets the label of site k, and was closed.
   pub carried-meeting : (ok : Bool) (ways′ decided′ : List ℕ) → getD ways (4 * j + (c - 1)) 0 ≡ 1
-      → Meet (side .0) 1 (placeAt xs ys k) c (placeAt xs ys j) c
-      → ClosedCorner ways decided j c ok ways′ decided′
+      → Clash (side .0) xs ys k c j → ClosedCorner ways decided j c ok ways′ decided′
       → (n : ℕ) → CarriedThere (labels (side .0) n xs ys) ways decided k j ok ways′ decided′
-  carried-meeting ok ways′ decided′ is-open meets closed n =
-      carried-closed (labels (side .0) n xs ys) ways decided k j (may .settled) c ok ways′ decided′
+  carried-meeting ok ways′ decided′ is-open clash closed n =
+      carried-closed (labels (side .0) n xs ys) ways decided k j (may .settled) c ok ways′ decided′ (clash .different)
       (row-at ways j c (may .corner) ∙ is-open)
-      (rw (← may .is-decided) meets)
-      (rw (← may .is-decided) (may .only-equal .equal))
+      (rw (← may .is-decided) (clash .meets))
+      (rw (← may .is-decided) (may .only-equal (clash .different) .equal))
       closed
 
   -- Its corner c is not open, or does not meet the label of site k.
-  pub carried-apart : (getD ways (4 * j + (c - 1)) 0 ≡ 1 → Meet (side .0) 1 (placeAt xs ys k) c (placeAt xs ys j) c → ⊥)
+  pub carried-apart : (getD ways (4 * j + (c - 1)) 0 ≡ 1 → Clash (side .0) xs ys k c j → ⊥)
       → (n : ℕ) → CarriedThere (labels (side .0) n xs ys) ways decided k j true ways decided
   carried-apart apart n =
       carried-same (labels (side .0) n xs ys) ways decided k j (may .settled) (may .sizes)
-      (rw (← may .is-decided)
+      (λ different.
+      rw (← may .is-decided)
       (λ e is-open meets.
-      let same : e ≡ c = may .only-equal .equal e is-open meets in
-      apart (sym (row-at ways j c (may .corner)) ∙ rw same at is-open) (rw same at meets)))
+      let same : e ≡ c = may .only-equal different .equal e is-open meets in
+      apart (sym (row-at ways j c (may .corner)) ∙ rw same at is-open) (record { different = different; meets = rw same at meets })))
 
 -- What carrying out does to site j is of its row and decision, and of the decision of site k.
 carried-moved : {P : Problem} {ways ways₁ ways′ ways₁′ decided decided₁ decided′ decided₁′ : List ℕ} {k j : ℕ}
@@ -304,16 +309,6 @@ carried-start P ways decided k sizes =
 
 module _ {P : Problem} {ways₀ decided₀ : List ℕ} {k j : ℕ} {ways decided : List ℕ}
     (below : CarriedBelow P ways₀ decided₀ k j ways decided) where
-  -- It passes over site k.
-  pub carried-past : j ≡ k → CarriedBelow P ways₀ decided₀ k (j + 1) ways decided
-  carried-past here =
-      record {
-        sizes = below .sizes;
-        carried = λ i h different. below .carried i (omega arith) different;
-        later = λ i h. below .later i (omega arith);
-        own = below .own;
-      }
-
   -- After all sites the decision is carried out.
   pub carried-all : P .n ≤ j → CarriedOut P ways₀ decided₀ k true ways decided
   carried-all end =
@@ -327,7 +322,7 @@ module _ {P : Problem} {ways₀ decided₀ : List ℕ} {k j : ℕ} {ways decided
         stuck = λ e. absurd (true≢false e);
       }
 
-  module _ (different : j ≢ k) {ok : Bool} {ways′ decided′ : List ℕ} (there : CarriedThere P ways decided k j ok ways′ decided′) where
+  module _ {ok : Bool} {ways′ decided′ : List ℕ} (there : CarriedThere P ways decided k j ok ways′ decided′) where
     -- It goes on to one more site.
     pub carried-more : ok ≡ true → CarriedBelow P ways₀ decided₀ k (j + 1) ways′ decided′
     carried-more yes-ok =
@@ -335,7 +330,7 @@ module _ {P : Problem} {ways₀ decided₀ : List ℕ} {k j : ℕ} {ways decided
           sizes = there .sizes;
           carried = λ i h other. from i h other (ℕ-discrete i j);
           later = λ i h. kept i (omega arith) (below .later i (omega arith));
-          own = kept k (λ p. different (sym p)) (below .own);
+          own = record { row = there .own ∙ below .own .row; decision = there .own-decided ∙ below .own .decision };
         }
       where
         kept : (i : ℕ) → i ≢ j → SameSite ways₀ decided₀ ways decided i → SameSite ways₀ decided₀ ways′ decided′ i
@@ -348,7 +343,7 @@ module _ {P : Problem} {ways₀ decided₀ : List ℕ} {k j : ℕ} {ways decided
             let same = below .later j (omega arith) in
             rw p
             (carried-moved (same .row) (same .decision) (below .own .decision) refl refl
-            (there .carried yes-ok))
+            (there .carried yes-ok (rw p at other)))
         from i h other (no d) =
             carried-moved refl refl refl (sym (there .elsewhere i d))
             (sym (there .decided-elsewhere i d))
@@ -364,7 +359,7 @@ module _ {P : Problem} {ways₀ decided₀ : List ℕ} {k j : ℕ} {ways decided
           stuck = λ e. record {
             site = j;
             listed = listed;
-            different = different;
+            different = there .stuck-other no-ok;
             all-conflict = λ e h.
                 rw (below .own .decision) at (there .stuck no-ok e (ap (λ r. r e) (same .row) ∙ h));
           };
@@ -372,18 +367,17 @@ module _ {P : Problem} {ways₀ decided₀ : List ℕ} {k j : ℕ} {ways decided
 
 -- On its way it may be carried to the next site.
 pub may-carry-to : {n : ℕ} {xs ys : List ℕ} {side : HalfUnits} {P : Problem} {ways₀ decided₀ : List ℕ} {k j : ℕ} {ways decided : List ℕ}
-    → MayCarryOut n xs ys side ways₀ decided₀ k → CarriedBelow P ways₀ decided₀ k j ways decided → j < n → j ≢ k
+    → MayCarryOut n xs ys side ways₀ decided₀ k → CarriedBelow P ways₀ decided₀ k j ways decided → j < n
     → MayCarryTo xs ys side ways decided k (cornerAt decided₀ k) j
-may-carry-to {n} {xs} {ys} {k} {j} may below listed different =
+may-carry-to {n} {xs} {ys} {k} {j} may below listed =
     let same = below .later j (omega arith) in
     record {
       judged = record { judged = may .held .judged };
       from = held-place (may .held) (may .listed);
       to = held-place (may .held) listed;
-      different = different;
       sizes = below .sizes;
       corner = may .corner;
       is-decided = sym (below .own .decision);
       settled = record { settled = rw (same .row, same .decision) (may .settled .all-settled j listed .settled) };
-      only-equal = record { equal = rw (same .row) (may .only-equal j listed different .equal) };
+      only-equal = λ different. record { equal = rw (same .row) (may .only-equal j listed different .equal) };
     }

@@ -1,6 +1,6 @@
 -- One site of the walk: its corners are tried from the lowest up, until a trial does not fail.
 -- Assumes nothing.
-use mathlib.Core.Path.{_≡_, refl, sym, _∙_, ap, subst}
+use mathlib.Core.Path.{_≡_, refl, sym, _∙_, ap}
 use mathlib.Core.Bool.{Bool, true, false, true≢false}
 use mathlib.Core.List.{List}
 use mathlib.Core.Logic.{_≢_}
@@ -88,12 +88,7 @@ walk-over n failed walked =
       no-solution = walked .no-solution;
     }
 
--- A walk past all sites.
-pub walked-all : {P : Problem} {i : ℕ} {ways decided : List ℕ} → i ≡ P .n → Sizes ways decided → Walked P i ways decided
-    → WalkedTo P (P .n) true ways decided
-walked-all {P} {i} {ways} {decided} end sizes walked =
-    record {
-      sizes = sizes;
-      walked = λ o. subst (λ (k : ℕ). Walked P k ways decided) end walked;
-      no-solution = λ o. let z : _≡_ {A = ℕ} 0 1 = cc in absurd (omega arith);
-    }
+-- A walk that has come to site i.
+pub walked-to : {P : Problem} {i : ℕ} {ways decided : List ℕ} → Sizes ways decided → Walked P i ways decided
+    → WalkedTo P i true ways decided
+walked-to sizes walked = record { sizes = sizes; walked = λ o. walked; no-solution = λ o. absurd (true≢false o) }

@@ -11,7 +11,9 @@ use lib.ListN.{length, getD, drop}
 use Rattle.placing.specs.declared.trial.Left.{Left}
 use Rattle.placing.specs.declared.trial.Left.the-variants.{Nothing, One, More}
 use Rattle.placing.specs.rules.Units.{mostSites}
+use Rattle.placing.specs.rules.Meet.{Meet}
 use Rattle.placing.specs.rules.Choice.{cornerAt}
+use Rattle.placing.specs.code.Sites.{placeAt}
 use Rattle.placing.specs.search.Problem.{Problem, Solution}
 use Rattle.placing.specs.search.Rows.{rowAt, rowOf}
 use Rattle.placing.specs.search.State.{CarriedTo, Carried, Stuck, Closed, Onward, Refused, Walked}
@@ -101,12 +103,20 @@ pub record Settled (ways decided : List ℕ) (j : ℕ) : Type 0 where
 pub record AllSettled (n : ℕ) (ways decided : List ℕ) : Type 0 where
   pub all-settled : (j : ℕ) → j < n → Settled ways decided j
 
--- The decision of site k was carried to site j.
+-- The labels of two sites at corner c meet.
+pub record Clash (side : ℕ) (xs ys : List ℕ) (k c j : ℕ) : Type 0 where
+  pub different : j ≢ k
+  pub meets : Meet side 1 (placeAt xs ys k) c (placeAt xs ys j) c
+
+-- The decision of site k was carried to site j. Where j is k, nothing is to be done.
 pub record CarriedThere (P : Problem) (ways decided : List ℕ) (k j : ℕ) (ok : Bool) (ways′ decided′ : List ℕ) : Type 0 where
   pub sizes : Sizes ways′ decided′
   pub elsewhere : (i : ℕ) → i ≢ j → rowOf ways′ i ≡ rowOf ways i
   pub decided-elsewhere : (i : ℕ) → i ≢ j → cornerAt decided′ i ≡ cornerAt decided i
-  pub carried : ok ≡ true → CarriedTo P ways decided k j ways′ decided′
+  pub own : rowOf ways′ k ≡ rowOf ways k
+  pub own-decided : cornerAt decided′ k ≡ cornerAt decided k
+  pub carried : ok ≡ true → j ≢ k → CarriedTo P ways decided k j ways′ decided′
+  pub stuck-other : ok ≡ false → j ≢ k
   pub stuck : ok ≡ false → (e : ℕ) → rowOf ways j e ≡ 1 → P .Conflict k (cornerAt decided k) j e
 
 -- The decision of site k was carried to every other site, or a site was left with no corner.

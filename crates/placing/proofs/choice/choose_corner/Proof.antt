@@ -1,38 +1,49 @@
--- `placing::choice::choose_corner` meets its contract: the corners passed are refused, and the first trial that does not fail is taken.
+-- `placing::choice::choose_corner` meets its contract: a decided site is passed over; else the corners passed are refused, and the
+-- first trial that does not fail is taken.
 -- Assumes nothing.
 use native.Mathlib.Omega.{arith}
 use Prim.Native.Nat.{_≤_, _-_}
 use borrow.Author.Needs.{needs}
+use Rattle.placing.specs.search.Walk.{walk-decided-add-one}
 use Rattle.placing.specs.code.Labels.{labels}
 use Rattle.placing.specs.code.Ways.{Kept}
 use Rattle.placing.specs.code.Marks.{kept-same, kept-twice}
-use Rattle.placing.specs.code.Walking.{RefusedUpTo, refused-none, refused-more, takes-corner, takes-none}
+use Rattle.placing.specs.code.Walking.{RefusedUpTo, refused-none, refused-more, takes-corner, takes-none, walked-to}
 use Rattle.placing.proofs.choice.choose_corner.Statement.{statement}
 use Rattle.placing.proofs.choice.choose_corner.Tie as tie
 
 abbrev Inv-loop : tie.InvT-loop
-Inv-loop xs ys n side state marks₀ i e₀ marks e =
+Inv-loop xs ys n side marks₀ i state e₀ marks e =
     (e ≤ 4) × Kept n marks₀ marks × RefusedUpTo (labels (side .0) n xs ys) (state .ways) i e
 
 abbrev μ-loop : tie.MeasureT-loop
-μ-loop xs ys n side state marks₀ i e₀ marks e = 4 - e
+μ-loop xs ys n side marks₀ i state e₀ marks e = 4 - e
+
+element-copy-out-if1 : tie.Need-element-copy-out-if1 Inv-loop μ-loop
+element-copy-out-if1 c = search needs
+
+returns : tie.Need-returns Inv-loop μ-loop
+returns c =
+    let may = c .before .before .before .pre in
+    (walked-to (may .0 .sizes) (walk-decided-add-one (may .0 .walked) (may .1) (c .if1 .taken)), kept-same)
 
 loop-holds : tie.Need-loop-holds Inv-loop μ-loop
-loop-holds c = (search needs, kept-same, refused-none _ (c .before .pre .listed))
+loop-holds c = (search needs, kept-same, refused-none _ (c .before .before .before .pre .1))
 
 try-open-requires : tie.Need-try-open-requires Inv-loop μ-loop
 try-open-requires c κs =
     let at-loop = c .before .before in
-    let may = at-loop .before .before .pre in (
+    let undecided = at-loop .before in
+    let may = undecided .before .before .before .pre in (
       record {
         walking = record {
-          held = may .walking .held;
-          sizes = may .walking .sizes;
-          room = rw (at-loop .loop .inv .1 .size) (may .walking .room);
-          walked = may .walking .walked;
+          held = may .0 .held;
+          sizes = may .0 .sizes;
+          room = rw (at-loop .loop .inv .1 .size) (may .0 .room);
+          walked = may .0 .walked;
         };
-        listed = may .listed;
-        undecided = may .undecided;
+        listed = may .1;
+        undecided = undecided .if1 .left;
       },
       c .before .loop-test .taken,
     )
@@ -40,13 +51,14 @@ try-open-requires c κs =
 same-length : tie.Need-same-length Inv-loop μ-loop
 same-length c = search needs
 
-returns : tie.Need-returns Inv-loop μ-loop
-returns c =
+returns-2 : tie.Need-returns-2 Inv-loop μ-loop
+returns-2 c =
     let at-try = c .before .before .before in
     let at-loop = at-try .before .before .before in
-    let may = at-loop .before .before .pre in (
-      takes-corner (at-loop .loop .e) (may .walking .walked) (may .listed) (may .undecided) (at-loop .loop .inv .2)
-          (at-try .try-open .ensures .0) (c .if1 .taken),
+    let undecided = at-loop .before in
+    let may = undecided .before .before .before .pre in (
+      takes-corner (at-loop .loop .e) (may .0 .walked) (may .1) (undecided .if1 .left) (at-loop .loop .inv .2)
+          (at-try .try-open .ensures .0) (c .if2 .taken),
       kept-twice (at-loop .loop .inv .1) (at-try .try-open .ensures .1),
     )
 
@@ -63,17 +75,17 @@ loop-again c =
     let before = at-loop .loop .inv in (
       omega arith,
       kept-twice (before .1) (at-try .try-open .ensures .1),
-      refused-more (at-loop .loop .e) (before .2) (at-try .try-open .ensures .0 .refused (c .if1 .left)),
+      refused-more (at-loop .loop .e) (before .2) (at-try .try-open .ensures .0 .refused (c .if2 .left)),
     )
 
 same-length-2 : tie.Need-same-length-2 Inv-loop μ-loop
 same-length-2 c = search needs
 
-returns-2 : tie.Need-returns-2 Inv-loop μ-loop
-returns-2 c =
+returns-3 : tie.Need-returns-3 Inv-loop μ-loop
+returns-3 c =
     let at-loop = c .before in
-    let may = at-loop .before .before .pre in (
-      takes-none (may .walking .sizes) (may .walking .walked) (may .listed) (c .loop-test .left) (at-loop .loop .inv .2),
+    let may = at-loop .before .before .before .before .pre in (
+      takes-none (may .0 .sizes) (may .0 .walked) (may .1) (c .loop-test .left) (at-loop .loop .inv .2),
       at-loop .loop .inv .1,
     )
 
@@ -83,12 +95,14 @@ choose-corner-spec =
     (tie.spec
     Inv-loop
     μ-loop
+    element-copy-out-if1
+    returns
     loop-holds
     try-open-requires
     same-length
-    returns
+    returns-2
     add-e
     loop-less
     loop-again
     same-length-2
-    returns-2)
+    returns-3)

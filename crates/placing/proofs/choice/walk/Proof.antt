@@ -1,58 +1,51 @@
 -- `placing::choice::walk` meets its contract: the walk has come to site i, by the laws of `specs/search/Walk`.
 -- Assumes nothing.
+use mathlib.Core.Path.{_≡_, refl}
+use mathlib.Core.Bool.{true}
 use Prim.Native.Nat.{_≤_, _-_}
-use mathlib.Core.Logic.{⊎-elim}
 use native.Mathlib.Omega.{arith}
 use borrow.Author.Needs.{needs}
 use borrow.Author.Tests.{not-true, not-false}
-use Rattle.placing.specs.search.State.{Walked}
-use Rattle.placing.specs.search.Walk.{walk-decided-add-one}
 use Rattle.placing.specs.code.Labels.{labels}
-use Rattle.placing.specs.code.Ways.{Kept, Sizes}
+use Rattle.placing.specs.code.Ways.{Kept, WalkedTo}
 use Rattle.placing.specs.code.Marks.{kept-same, kept-twice}
-use Rattle.placing.specs.code.Walking.{walk-over, walked-all}
+use Rattle.placing.specs.code.Walking.{walk-over, walked-to}
 use Rattle.placing.proofs.choice.walk.Statement.{statement}
 use Rattle.placing.proofs.choice.walk.Tie as tie
 
 abbrev Inv-loop : tie.InvT-loop
-Inv-loop xs ys n side marks₀ state₀ i₀ marks state i =
-    (i ≤ n) × Kept n marks₀ marks × Sizes (state .ways) (state .decided)
-    × Walked (labels (side .0) n xs ys) i (state .ways) (state .decided)
+Inv-loop xs ys n side marks₀ walked₀ i₀ marks walked i =
+    (i ≤ n) × Kept n marks₀ marks × (walked .ok ≡ true)
+    × WalkedTo (labels (side .0) n xs ys) i (walked .ok) (walked .state .ways) (walked .state .decided)
 
 abbrev μ-loop : tie.MeasureT-loop
-μ-loop xs ys n side marks₀ state₀ i₀ marks state i = n - i
+μ-loop xs ys n side marks₀ walked₀ i₀ marks walked i = n - i
 
 loop-holds : tie.Need-loop-holds Inv-loop μ-loop
-loop-holds c = (search needs, kept-same, c .before .pre .sizes, c .before .pre .walked)
-
-element-copy-out-if1 : tie.Need-element-copy-out-if1 Inv-loop μ-loop
-element-copy-out-if1 c = search needs
+loop-holds c = (search needs, kept-same, refl, walked-to (c .before .pre .sizes) (c .before .pre .walked))
 
 choose-corner-requires : tie.Need-choose-corner-requires Inv-loop μ-loop
 choose-corner-requires c κs =
-    let at-loop = c .before .before .before .before in
+    let at-loop = c .before .before .before in
     let may = at-loop .before .before .pre in
-    record {
-      walking = record {
+    let so-far = at-loop .loop .inv in (
+      record {
         held = may .held;
-        sizes = at-loop .loop .inv .2;
-        room = rw (at-loop .loop .inv .1 .size) (may .room);
-        walked = at-loop .loop .inv .3;
-      };
-      listed = omega arith;
-      undecided = c .before .if1 .taken;
-    }
+        sizes = so-far .3 .sizes;
+        room = rw (so-far .1 .size) (may .room);
+        walked = so-far .3 .walked (so-far .2);
+      },
+      c .before .before .loop-test .taken,
+    )
 
 same-length : tie.Need-same-length Inv-loop μ-loop
 same-length c = search needs
 
 returns : tie.Need-returns Inv-loop μ-loop
 returns c =
-    let at-choose = c .before .before .before .before in
-    let at-loop = at-choose .before .before .before .before .before in (
-      walk-over _ (not-true _ (c .if2 .taken)) (at-choose .choose-corner .ensures .0),
-      kept-twice (at-loop .loop .inv .1) (at-choose .choose-corner .ensures .1),
-    )
+    let next = c .before .before .before .before .choose-corner .ensures in
+    let so-far = c .before .before .before .before .before .before .before .before .loop .inv in
+    (walk-over _ (not-true _ (c .if1 .taken)) (next .0), kept-twice (so-far .1) (next .1))
 
 add-i : tie.Need-add-i Inv-loop μ-loop
 add-i c = search needs
@@ -62,32 +55,18 @@ loop-less c = search needs
 
 loop-again : tie.Need-loop-again Inv-loop μ-loop
 loop-again c =
-    let at-loop = c .before .before .before in
-    let before = at-loop .loop .inv in
-    ⊎-elim
-    (λ w. rw (w .8, w .9) ((
-      omega arith,
-      kept-twice (before .1) (w .2 .ensures .1),
-      w .2 .ensures .0 .sizes,
-      w .2 .ensures .0 .walked (not-false _ (w .6 .left)),
-    )))
-    (λ w. rw (w .1, w .2) ((
-      omega arith,
-      before .1,
-      before .2,
-      walk-decided-add-one (before .3) (omega arith) (w .0 .left),
-    )))
-    (c .if1 .came)
+    let next = c .before .before .before .before .choose-corner .ensures in
+    let so-far = c .before .before .before .before .before .before .before .before .loop .inv in
+    (omega arith, kept-twice (so-far .1) (next .1), not-false _ (c .if1 .left), next .0)
 
 same-length-2 : tie.Need-same-length-2 Inv-loop μ-loop
 same-length-2 c = search needs
 
 returns-2 : tie.Need-returns-2 Inv-loop μ-loop
 returns-2 c =
-    let at-loop = c .before in (
-      walked-all (omega arith) (at-loop .loop .inv .2) (at-loop .loop .inv .3),
-      at-loop .loop .inv .1,
-    )
+    let at-loop = c .before in
+    let end : at-loop .loop .i ≡ at-loop .before .before .args .n = omega arith in
+    (rw end at (at-loop .loop .inv .3), at-loop .loop .inv .1)
 
 pub walk-spec : {M : Type 1} → statement M
 walk-spec =
@@ -96,7 +75,6 @@ walk-spec =
     Inv-loop
     μ-loop
     loop-holds
-    element-copy-out-if1
     choose-corner-requires
     same-length
     returns

@@ -1,11 +1,10 @@
 -- `trial::carry_out` meets its contract. The loop's invariant: the decision of `k` was carried to the other sites below `j`, and the
 -- rest is as at entry. The measure is the number of sites left. Assumes nothing.
 use Prim.Native.Nat.{_≤_, _-_}
-use mathlib.Core.Logic.{⊎-elim}
 use native.Mathlib.Omega.{arith}
 use borrow.Author.Tests.{not-true, not-false}
 use Rattle.placing.specs.code.Labels.{labels}
-use Rattle.placing.specs.code.Carry.{CarriedBelow, carried-start, carried-past, carried-more, carried-all, carried-stuck, may-carry-to}
+use Rattle.placing.specs.code.Carry.{CarriedBelow, carried-start, carried-more, carried-all, carried-stuck, may-carry-to}
 use Rattle.placing.proofs.trial.carry_out.Statement.{statement}
 use Rattle.placing.proofs.trial.carry_out.Tie as tie
 
@@ -24,15 +23,13 @@ loop-holds c = (omega arith, carried-start _ _ _ _ (c .before .pre .sizes))
 carry-to-requires : tie.Need-carry-to-requires Inv-loop μ-loop
 carry-to-requires c κs =
     let turn = c .before .before in
-    let head = turn .before .before in
-    may-carry-to (head .before .before .pre) (head .loop .inv .1) (turn .before .loop-test .taken) (turn .if1 .taken)
+    may-carry-to (turn .before .before .before .pre) (turn .before .loop .inv .1) (turn .loop-test .taken)
 
 returns : tie.Need-returns Inv-loop μ-loop
 returns c =
     let turn = c .before .before .before .before in
-    let head = turn .before .before in
-    carried-stuck (head .loop .inv .1) (turn .if1 .taken) (c .before .carry-to .ensures (head .before .before .args .n))
-    (turn .before .loop-test .taken) (not-true _ (c .if2 .taken))
+    carried-stuck (turn .before .loop .inv .1) (c .before .carry-to .ensures (turn .before .before .before .args .n))
+    (turn .loop-test .taken) (not-true _ (c .if1 .taken))
 
 add-j : tie.Need-add-j Inv-loop μ-loop
 add-j c = omega arith
@@ -42,12 +39,9 @@ loop-less c = omega arith
 
 loop-again : tie.Need-loop-again Inv-loop μ-loop
 loop-again c =
-    let head = c .before .before in
-    let below = head .loop .inv .1 in
-    let size = head .before .before .args .n in (
+    let head = c .before .before .before .before .before in (
       omega arith,
-      ⊎-elim (λ w. rw (w .5, w .6) (carried-more below (w .0 .taken) (w .3 .ensures size) (not-false _ (w .4 .left))))
-          (λ w. rw (w .1, w .2) (carried-past below (w .0 .left))) (c .if1 .came),
+      carried-more (head .loop .inv .1) (c .before .carry-to .ensures (head .before .before .args .n)) (not-false _ (c .if1 .left)),
     )
 
 returns-2 : tie.Need-returns-2 Inv-loop μ-loop

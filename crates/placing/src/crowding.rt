@@ -8,10 +8,10 @@ use crate::units::Place;
 use crate::units::Units;
 ghost use mathlib.Core.Path.{_≡_};
 ghost use Prim.Native.Nat.{_<_, max};
-ghost use Rattle.placing.specs.rules.Units.{OnPlan, dist};
+ghost use Rattle.placing.specs.rules.Units.{OnPlan, dist, mostSites};
 ghost use Rattle.placing.specs.rules.Corner.{Corner};
 ghost use Rattle.placing.specs.code.Sites.{Held, sitesOf};
-ghost use Rattle.placing.specs.code.Crowding.{apart, Lowered, Nearer, Passed, SiteReaches, CrowdingIs, judgedFree};
+ghost use Rattle.placing.specs.code.Crowding.{apart, Lowered, Nearer, Passed, SiteReaches, CrowdingIs, judgedFree, written};
 
 // The reaches of the four corners of a site: a doubled label covers another site where its side is above the corner's reach.
 pub(crate) struct Reaches {
@@ -114,8 +114,34 @@ fn reaches_of(xs: &[u32; Limits::SITES], ys: &[u32; Limits::SITES], n: usize, i:
     reaches
 }
 
-// The reaches of all sites. They are written here and not by a function that the arrays are lent to, since the prover takes no
-// reference to an array of structs.
+// The reaches so far, with those of site `i`.
+fn with_site(crowding: Crowding, i: usize, reaches: Reaches) -> Crowding
+    requires { ⌜ i < mostSites ⌝ }
+    ensures { λ r. ⌜ r ≡ written crowding i reaches ⌝ }
+{
+    let mut first = crowding.first;
+    let mut second = crowding.second;
+    let mut third = crowding.third;
+    let mut fourth = crowding.fourth;
+    let Reaches {
+        first: one,
+        second: two,
+        third: three,
+        fourth: four,
+    } = reaches;
+    first[i] = one;
+    second[i] = two;
+    third[i] = three;
+    fourth[i] = four;
+    Crowding {
+        first,
+        second,
+        third,
+        fourth,
+    }
+}
+
+// The reaches of all sites.
 pub(crate) fn crowding_of(
     xs: &[u32; Limits::SITES],
     ys: &[u32; Limits::SITES],
@@ -124,26 +150,14 @@ pub(crate) fn crowding_of(
     requires { ⌜ Held n (now xs) (now ys) judgedFree ⌝ }
     ensures { λ r. ⌜ CrowdingIs (sitesOf n (now (xs .entry)) (now (ys .entry))) n r ⌝ }
 {
-    let mut first = [HalfUnits(0); Limits::SITES];
-    let mut second = [HalfUnits(0); Limits::SITES];
-    let mut third = [HalfUnits(0); Limits::SITES];
-    let mut fourth = [HalfUnits(0); Limits::SITES];
+    let mut crowding = Crowding {
+        first: [HalfUnits(0); Limits::SITES],
+        second: [HalfUnits(0); Limits::SITES],
+        third: [HalfUnits(0); Limits::SITES],
+        fourth: [HalfUnits(0); Limits::SITES],
+    };
     for i in 0..n {
-        let Reaches {
-            first: one,
-            second: two,
-            third: three,
-            fourth: four,
-        } = reaches_of(xs, ys, n, i);
-        first[i] = one;
-        second[i] = two;
-        third[i] = three;
-        fourth[i] = four;
+        crowding = with_site(crowding, i, reaches_of(xs, ys, n, i));
     }
-    Crowding {
-        first,
-        second,
-        third,
-        fourth,
-    }
+    crowding
 }

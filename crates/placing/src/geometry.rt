@@ -10,7 +10,7 @@ ghost use Rattle.placing.specs.rules.Decides.{Decides};
 ghost use Rattle.placing.specs.rules.Corner.{Corner};
 ghost use Rattle.placing.specs.rules.Meet.{Overlap, Meet};
 ghost use Rattle.placing.specs.rules.Crowd.{Ahead, DoubledCovers};
-ghost use Rattle.placing.specs.declared.corner.Direction.the-variants.{Up, Down};
+ghost use Rattle.placing.specs.declared.corner.Direction.the-variants.{Up};
 
 // Two labels that go the same way: they overlap where the side is above the distance.
 fn same_way(side: HalfUnits, a: Units, b: Units) -> bool

@@ -223,7 +223,7 @@ pub site-all : {ps : List Place} {i k : ℕ} {reaches : Reaches} → length ps �
 site-all all among = record { at-corner = λ c corner. among-all all (among .at-corner c corner) }
 
 -- The arrays with the reaches of site k written.
-abbrev written : Crowding → ℕ → Reaches → Crowding
+abbrev pub written : Crowding → ℕ → Reaches → Crowding
 written crowding k reaches =
     record {
       first = set (crowding .first) k (reaches .first);

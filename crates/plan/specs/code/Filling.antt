@@ -18,7 +18,7 @@ use Rattle.plan.specs.declared.refusal.Outcome.{Outcome}
 use Rattle.plan.specs.declared.refusal.Outcome.the-variants.{Done, Refused}
 use Rattle.plan.specs.declared.refusal.Refusal.{Refusal}
 use Rattle.plan.specs.declared.refusal.Refusal.the-variants.{NoSites, ShortBuffer}
-use Rattle.plan.specs.rules.Site.{Site, Listed}
+use Rattle.plan.specs.rules.Site.{Listed}
 use Rattle.plan.specs.rules.Enter.{Sites, accepted, refused}
 use Rattle.plan.specs.rules.List.{readList, read-listed}
 use Rattle.plan.specs.rules.Sheet.{sheetOf}

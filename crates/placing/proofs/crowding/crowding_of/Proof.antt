@@ -9,11 +9,10 @@ use Rattle.placing.proofs.crowding.crowding_of.Statement.{statement}
 use Rattle.placing.proofs.crowding.crowding_of.Tie as tie
 
 abbrev Inv-loop : tie.InvT-loop
-Inv-loop xs ys n first₀ second₀ third₀ fourth₀ i₀ first second third fourth i =
-    (i ≤ n) × CrowdingBelow (sitesOf n xs ys) i (record { first = first; second = second; third = third; fourth = fourth })
+Inv-loop xs ys n crowding₀ i₀ crowding i = (i ≤ n) × CrowdingBelow (sitesOf n xs ys) i crowding
 
 abbrev μ-loop : tie.MeasureT-loop
-μ-loop xs ys n first₀ second₀ third₀ fourth₀ i₀ first second third fourth i = n - i
+μ-loop xs ys n crowding₀ i₀ crowding i = n - i
 
 loop-holds : tie.Need-loop-holds Inv-loop μ-loop
 loop-holds c = (omega arith, crowding-none refl refl refl refl)
@@ -21,29 +20,8 @@ loop-holds c = (omega arith, crowding-none refl refl refl refl)
 reaches-of-requires : tie.Need-reaches-of-requires Inv-loop μ-loop
 reaches-of-requires c κs = (c .before .before .pre, c .loop-test .taken)
 
-mul-first : tie.Need-mul-first Inv-loop μ-loop
-mul-first c = omega arith
-
-array-set-from-first : tie.Need-array-set-from-first Inv-loop μ-loop
-array-set-from-first c = omega arith
-
-mul-second : tie.Need-mul-second Inv-loop μ-loop
-mul-second c = omega arith
-
-array-set-from-second : tie.Need-array-set-from-second Inv-loop μ-loop
-array-set-from-second c = omega arith
-
-mul-third : tie.Need-mul-third Inv-loop μ-loop
-mul-third c = omega arith
-
-array-set-from-third : tie.Need-array-set-from-third Inv-loop μ-loop
-array-set-from-third c = omega arith
-
-mul-fourth : tie.Need-mul-fourth Inv-loop μ-loop
-mul-fourth c = omega arith
-
-array-set-from-fourth : tie.Need-array-set-from-fourth Inv-loop μ-loop
-array-set-from-fourth c = omega arith
+with-site-requires : tie.Need-with-site-requires Inv-loop μ-loop
+with-site-requires c κs = omega arith
 
 add-i : tie.Need-add-i Inv-loop μ-loop
 add-i c = omega arith
@@ -53,8 +31,10 @@ loop-less c = omega arith
 
 loop-again : tie.Need-loop-again Inv-loop μ-loop
 loop-again c =
-    let found = c .before .before .before .before in
-    (omega arith, crowding-more (omega arith) (found .before .before .loop .inv .1) (found .reaches-of .ensures))
+    let found = c .before in (
+      omega arith,
+      rw (c .with-site .ensures) (crowding-more (omega arith) (found .before .before .loop .inv .1) (found .reaches-of .ensures)),
+    )
 
 returns : tie.Need-returns Inv-loop μ-loop
 returns c = crowding-all (omega arith) (c .before .loop .inv .1)
@@ -67,14 +47,7 @@ crowding-of-spec =
     μ-loop
     loop-holds
     reaches-of-requires
-    mul-first
-    array-set-from-first
-    mul-second
-    array-set-from-second
-    mul-third
-    array-set-from-third
-    mul-fourth
-    array-set-from-fourth
+    with-site-requires
     add-i
     loop-less
     loop-again

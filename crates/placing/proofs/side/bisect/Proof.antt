@@ -1,7 +1,7 @@
 -- `placing::side::bisect` meets its contract: the lower end has a good choice and the upper one has none, until they are one apart.
 -- Assumes nothing.
 use mathlib.Core.Path.{_∙_}
-use Prim.Native.Nat.{ℕ, _-_}
+use Prim.Native.Nat.{_-_}
 use native.Mathlib.Omega.{arith}
 use borrow.Author.Needs.{needs}
 use Rattle.placing.specs.code.Sites.{sitesOf, length-sites}

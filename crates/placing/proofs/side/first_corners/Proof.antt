@@ -1,10 +1,10 @@
 -- `placing::side::first_corners` meets its contract: the corners so far, then zeros.
 -- Assumes nothing.
 use mathlib.Core.Path.{_≡_, refl, ap, _∙_}
-use mathlib.Core.List.{List, _++_}
+use mathlib.Core.List.{List}
 use Prim.Native.Nat.{ℕ, _≤_, _-_}
 use native.Mathlib.Omega.{arith}
-use lib.ListN.{length, getD, set, drop, replicate, length-set}
+use lib.ListN.{length, getD, set, length-set}
 use borrow.Author.Needs.{needs}
 use Rattle.placing.proofs.Copied.{copied, copied-more, zeros, length-zeros, drop-zeros}
 use Rattle.placing.proofs.side.first_corners.Statement.{statement}

@@ -1,7 +1,6 @@
 -- `plan::output::place_list` meets its contract: the list is refused, or its plan is placed with a table that is enough for every plan.
 -- Assumes nothing.
 use borrow.Author.Needs.{needs}
-use mathlib.Core.List.{List}
 use Prim.Native.Nat.{ℕ}
 use lib.ListN.{replicate, length-replicate}
 use denote.Ref.{now}

@@ -16,10 +16,10 @@ use Rattle.placing.specs.code.Sites.{held-place}
 use Rattle.placing.specs.rules.Choice.{cornerAt}
 use Rattle.placing.specs.search.Problem.{Problem}
 use Rattle.placing.specs.search.Rows.{rowOf, row-zero, row-at, row-written, row-kept, row-elsewhere}
-use Rattle.placing.specs.search.State.{TwoOpen, CarriedTo}
+use Rattle.placing.specs.search.State.{SomeOpen, TwoOpen, CarriedTo}
 use Rattle.placing.specs.code.Labels.{labels}
 use Rattle.placing.specs.code.Asks.{MayCarryTo, MayCarryOut}
-use Rattle.placing.specs.code.Ways.{Sizes, Lone, NoneOpen, SomeOpen, TakenCorner, ClosedCorner, Settled, Clash, CarriedThere, CarriedOut}
+use Rattle.placing.specs.code.Ways.{Sizes, Lone, NoneOpen, TakenCorner, ClosedCorner, Settled, Clash, CarriedThere, CarriedOut}
 
 -- The bytes with corner c of site j written as v.
 abbrev written : List ℕ → ℕ → ℕ → ℕ → List ℕ
@@ -216,14 +216,7 @@ module _ (P : Problem) (ways decided : List ℕ) (k j : ℕ) (settled : Settled 
 
       two-left : Left′ → cornerAt decided′ j ≡ 0 → TwoOpen ways′ j
       two-left (inl lone) free = absurd (omega (arith, row-zero ways′ j, rw free at (lone .is-open)))
-      two-left (inr some) free =
-          record {
-            one = some .0 .one;
-            two = some .0 .two;
-            differ = some .0 .differ;
-            one-open = some .0 .one-open;
-            two-open = some .0 .two-open;
-          }
+      two-left (inr some) free = some .0
 
       carried : Left′ → CarriedTo P ways decided k j ways′ decided′
       carried left =
@@ -276,15 +269,7 @@ carried-moved rows decision own rows′ decision′ carried =
       stays-open = rw (decision, rows′) at (carried .stays-open);
       decides-open = rw (decision, decision′, rows′) at (carried .decides-open);
       decides-alone = rw (decision, decision′, rows′) at (carried .decides-alone);
-      two-left = λ e free was-open now-shut.
-          let two = carried .two-left e (decision′ ∙ free) (rw rows was-open) (λ h. now-shut (rw rows′ at h)) in
-          record {
-            one = two .one;
-            two = two .two;
-            differ = two .differ;
-            one-open = rw rows′ at (two .one-open);
-            two-open = rw rows′ at (two .two-open);
-          };
+      two-left = rw (rows, decision′, rows′) at (carried .two-left);
     }
 
 -- Site i is as it was.

@@ -16,7 +16,7 @@ use Rattle.placing.specs.rules.Choice.{cornerAt}
 use Rattle.placing.specs.code.Sites.{placeAt}
 use Rattle.placing.specs.search.Problem.{Problem, Solution}
 use Rattle.placing.specs.search.Rows.{rowAt, rowOf}
-use Rattle.placing.specs.search.State.{CarriedTo, Carried, Stuck, Closed, Onward, Refused, Walked}
+use Rattle.placing.specs.search.State.{SomeOpen, CarriedTo, Carried, Stuck, Closed, Onward, Refused, Walked}
 
 pub record Sizes (ways decided : List ℕ) : Type 0 where
   pub ways-size : length ways ≡ 4 * mostSites
@@ -29,13 +29,6 @@ pub record Lone (row : ℕ → ℕ) (c : ℕ) : Type 0 where
 
 pub record NoneOpen (row : ℕ → ℕ) : Type 0 where
   pub none-open : (e : ℕ) → row e ≡ 1 → ⊥
-
-pub record SomeOpen (row : ℕ → ℕ) : Type 0 where
-  pub one : ℕ
-  pub two : ℕ
-  pub differ : one ≢ two
-  pub one-open : row one ≡ 1
-  pub two-open : row two ≡ 1
 
 -- What holds of each open corner of four bytes holds of every open one.
 by-corner : (Q : ℕ → Type 0) (a b c d : ℕ) → (a ≡ 1 → Q 1) → (b ≡ 1 → Q 2) → (c ≡ 1 → Q 3) → (d ≡ 1 → Q 4)

@@ -10,13 +10,17 @@ use Rattle.placing.specs.rules.Choice.{cornerAt}
 use Rattle.placing.specs.search.Problem.{Problem, Solution}
 use Rattle.placing.specs.search.Rows.{rowOf}
 
--- Two different corners of site i are open.
-pub record TwoOpen (ways : List ℕ) (i : ℕ) : Type 0 where
+-- Two different corners are open, by the bytes of a row.
+pub record SomeOpen (row : ℕ → ℕ) : Type 0 where
   pub one : ℕ
   pub two : ℕ
   pub differ : one ≢ two
-  pub one-open : rowOf ways i one ≡ 1
-  pub two-open : rowOf ways i two ≡ 1
+  pub one-open : row one ≡ 1
+  pub two-open : row two ≡ 1
+
+-- Two different corners of site i are open.
+abbrev pub TwoOpen : List ℕ → ℕ → Type 0
+TwoOpen ways i = SomeOpen (rowOf ways i)
 
 -- Corner c of site i conflicts with the decided corner of some other site.
 pub record ClosedBy (P : Problem) (decided : List ℕ) (i c : ℕ) : Type 0 where

@@ -8,7 +8,8 @@ use lib.Dec.{eqb}
 use borrow.Author.Needs.{needs}
 use borrow.Author.Tests.{eqb-true, eqb-false}
 use Rattle.placing.specs.search.Rows.{rowAt}
-use Rattle.placing.specs.code.Ways.{SomeOpen, lone-row, none-row, some-row, left-by}
+use Rattle.placing.specs.search.State.{SomeOpen}
+use Rattle.placing.specs.code.Ways.{lone-row, none-row, some-row, left-by}
 use Rattle.placing.proofs.trial.left_of.Statement.{statement}
 use Rattle.placing.proofs.trial.left_of.Tie as tie
 

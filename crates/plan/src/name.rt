@@ -1,7 +1,8 @@
 // A site's name: 1 to 8 bytes, each A to Z, 0 to 9 or hyphen.
+use crate::put::put_bytes;
 ghost use mathlib.Core.Path.{_≡_};
 ghost use Prim.Native.Nat.{_≤_};
-ghost use Rattle.plan.specs.rules.Name.{nameByte, sameBytes, bytesOf, mostNameBytes};
+ghost use Rattle.plan.specs.rules.Name.{nameByte, isName, sameBytes, bytesOf, mostNameBytes};
 ghost use Rattle.plan.specs.code.NameRead.{nameRead, noName, noRead};
 
 // The bytes of a name from the front, zeros past them.
@@ -61,25 +62,35 @@ fn is_name_byte(b: u8) -> bool
     b <= b'Z'
 }
 
+// Whether a text is a name.
+fn is_name(text: &[u8]) -> bool
+    ensures { λ r. ⌜ r ≡ isName (now (text .entry)) ⌝ }
+{
+    let n = text.len();
+    if n == 0 {
+        return false;
+    }
+    if n > Name::LONGEST {
+        return false;
+    }
+    for i in 0..n {
+        if !is_name_byte(text[i]) {
+            return false;
+        }
+    }
+    true
+}
+
 // The name that a text is, if it is one.
 pub(crate) fn name_from(text: &[u8]) -> NameRead
     ensures { λ r. ⌜ r ≡ nameRead (now (text .entry)) ⌝ }
 {
+    if !is_name(text) {
+        return NameRead::none();
+    }
     let n = text.len();
-    if n == 0 {
-        return NameRead::none();
-    }
-    if n > Name::LONGEST {
-        return NameRead::none();
-    }
     let mut bytes = [0u8; Name::LONGEST];
-    for i in 0..n {
-        let b = text[i];
-        if !is_name_byte(b) {
-            return NameRead::none();
-        }
-        bytes[i] = b;
-    }
+    put_bytes(&mut bytes, 0, text, n);
     let name = Name { bytes, len: n };
     NameRead { ok: true, name }
 }

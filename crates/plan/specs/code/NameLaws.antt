@@ -3,18 +3,20 @@
 use mathlib.Core.Bool.{Bool, true, false, _&&_, and-false, or-false}
 use mathlib.Core.List.{List, [], _∷_, _++_}
 use mathlib.Core.Logic.{_≢_}
-use mathlib.Core.Path.{_≡_, refl, sym, ap, ap₂, _∙_}
+use mathlib.Core.Path.{_≡_, refl, sym, ap, _∙_}
 use Prim.Native.Nat.{ℕ, zero, suc, _+_, _-_, _≤_, _<_}
 use native.Mathlib.Nat.{zero-sub, suc-sub-suc, sub-zero}
 use native.Mathlib.Numerals.{add-one}
 use native.Mathlib.Omega.{arith}
 use lib.Dec.{eqb, leb}
-use lib.ListN.{length, getD, take, drop, replicate, drop-of-length-le}
+use lib.ListN.{length, getD, take, drop, replicate, length-replicate, drop-of-length-le}
 use lib.Seq.{drop-cons, take-length, slice-cons, slice-empty}
 use borrow.Author.Tests.{le-leb, lt-leb, eq-eqb, ne-eqb}
 use Rattle.plan.specs.declared.name.NameRead.{NameRead}
-use Rattle.plan.specs.rules.Name.{nameByte, nameBytes, isName, sameBytes, nameOf, mostNameBytes}
+use Rattle.plan.specs.rules.Name.{nameByte, nameBytes, isName, sameBytes, nameOf, mostNameBytes, name-short}
 use Rattle.plan.specs.code.NameRead.{noRead, nameWhere, nameRead}
+use Rattle.plan.specs.code.Put.{Put}
+use Rattle.plan.specs.code.PutLaws.{put-same, put-front}
 
 -- A byte is of a name by where it stands: hyphen, below the digits, a digit, between digits and letters, from A on.
 pub hyphen-name-byte : (b : ℕ) → b ≡ 45 → nameByte b ≡ true
@@ -70,18 +72,22 @@ drop-zeros (suc n) zero = rw zero-sub
 drop-zeros (suc n) (suc k) = rw suc-sub-suc (drop-zeros n k)
 
 -- A text written over eight zeros is what its record holds.
-over-zeros : (text : List ℕ) → take (length text) text ++ drop (length text) (replicate mostNameBytes 0) ≡ nameOf text .bytes
-over-zeros text = ap₂ (λ (xs ys : List ℕ). xs ++ ys) (take-length text) (drop-zeros (length text) mostNameBytes)
+over-zeros : (text : List ℕ) {bytes : List ℕ} {next : ℕ} → length text ≤ mostNameBytes
+    → Put (replicate mostNameBytes 0) 0 (take (length text) text) next bytes → bytes ≡ nameOf text .bytes
+over-zeros text short put =
+    put-front (put-same put (take-length text)) (omega (arith, length-replicate {A = ℕ} mostNameBytes 0))
+    ∙ ap (λ (zeros : List ℕ). text ++ zeros) (drop-zeros (length text) mostNameBytes)
 
 -- What is handed back where the text is no name.
 pub no-name-read : (text : List ℕ) {read : NameRead} → read ≡ noRead → isName text ≡ false → read ≡ nameRead text
 no-name-read text e refused = e ∙ sym (ap (λ (ok : Bool). record { ok = ok; name = nameWhere ok text }) refused)
 
 -- What is handed back where it is one, written over zeros.
-pub name-read : (text bytes : List ℕ) → bytes ≡ take (length text) text ++ drop (length text) (replicate mostNameBytes 0) → isName text ≡ true
+pub name-read : (text : List ℕ) {bytes : List ℕ} {next : ℕ} → isName text ≡ true
+    → Put (replicate mostNameBytes 0) 0 (take (length text) text) next bytes
     → record { ok = true; name = record { bytes = bytes; len = length text } } ≡ nameRead text
-name-read text bytes e is =
-    ap (λ (b : List ℕ). record { ok = true; name = record { bytes = b; len = length text } }) (e ∙ over-zeros text)
+name-read text is put =
+    ap (λ (b : List ℕ). record { ok = true; name = record { bytes = b; len = length text } }) (over-zeros text (name-short text is) put)
     ∙ sym (ap (λ (ok : Bool). record { ok = ok; name = nameWhere ok text }) is)
 
 -- The names are of different lengths.

@@ -1,2 +1,2 @@
 -- What several proofs share: facts about lists.
-pub mod Copied
+mod Copied

@@ -19,4 +19,3 @@ pub mod SheetParts
 pub mod Composing
 pub mod Refusing
 pub mod Filling
-pub mod Within

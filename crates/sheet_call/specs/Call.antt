@@ -10,8 +10,7 @@ use lib.ListN.{length, take, drop}
 use lib.Seq.{take-append-seam}
 use Rattle.plan.specs.declared.refusal.Refusal.{Refusal}
 use Rattle.plan.specs.declared.refusal.Refusal.the-variants.{NoSites, ShortBuffer}
-use Rattle.plan.specs.rules.Refusal.{numberOf}
-use Rattle.plan.specs.code.Refusing.{number-small}
+use Rattle.plan.specs.rules.Refusal.{numberOf, number-small}
 use Rattle.plan.specs.rules.Site.{Site}
 use Rattle.plan.specs.rules.Enter.{Sites, accepted, refused}
 use Rattle.plan.specs.rules.List.{readList, read-listed}

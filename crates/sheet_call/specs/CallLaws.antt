@@ -1,6 +1,6 @@
 -- What placing a list and writing its plan make of the list and a buffer: the call.
 -- Assumes nothing.
-use mathlib.Core.Path.{_≡_, refl, sym, ap, ap₂, _∙_, subst}
+use mathlib.Core.Path.{_≡_, refl, sym, ap, _∙_, subst}
 use mathlib.Core.Bool.{Bool, true, false}
 use mathlib.Core.List.{List, [], _∷_}
 use Prim.Native.Nat.{ℕ}
@@ -18,9 +18,9 @@ use Rattle.plan.specs.rules.Refusal.{numberOf}
 use Rattle.plan.specs.rules.Enter.{Sites, accepted, refused}
 use Rattle.plan.specs.rules.List.{readList}
 use Rattle.plan.specs.rules.Sheet.{sheetOf}
-use Rattle.plan.specs.rules.Calls.{written, bufferAfter, filledWhere}
-use Rattle.plan.specs.rules.Output.{listPlaced, outputOf, outputWhere, output-sheet}
-use Rattle.plan.specs.code.Filling.{placed-output, sheet-filled, Filled}
+use Rattle.plan.specs.rules.Plan.{placed, sites-placed}
+use Rattle.plan.specs.rules.Calls.{written, writeWhere, bufferAfter, filledWhere}
+use Rattle.plan.specs.rules.Output.{listPlaced}
 use Rattle.sheet_call.specs.Call.{Called, Told, refusal, sheetIn, calledFor, called, call-told}
 
 -- What the contract says of a number and of a buffer afterwards.
@@ -59,30 +59,23 @@ abbrev pub asCalled : Written → List ℕ → Called
 asCalled (Bytes n) after = record { number = n; buffer = after }
 asCalled (NotWritten why) after = refusal why after
 
--- Filling a buffer with a sheet is what the call does for a list of sites.
-filled-called : (sheet buffer : List ℕ) {answer : Written} {after : List ℕ} → Filled sheet buffer answer after
-    → sheetIn (ltb (length buffer) (length sheet)) sheet buffer ≡ asCalled answer after
-filled-called sheet buffer filled =
-    by-room (ltb (length buffer) (length sheet)) ∙ sym (ap₂ asCalled (filled .answer-is) (filled .after-is))
-  where
-    by-room : (short : Bool)
-        → sheetIn short sheet buffer ≡ asCalled (outputWhere short sheet) (filledWhere (outputWhere short sheet) sheet buffer)
-    by-room true = refl
-    by-room false = refl
-
 -- The list is placed, and the plan is written.
 pub write-calls : (list buffer : List ℕ) {done : Planned} {answer : Written} {after : List ℕ} → done ≡ listPlaced (readList list)
     → done .outcome ≡ Done → answer ≡ written (done .plan) buffer → after ≡ bufferAfter (done .plan) buffer
     → called list buffer ≡ asCalled answer after
-write-calls list buffer {done} {answer} {after} done-is is answered left =
-    by-sites (readList list) refl (ap outcomeOf (sym done-is) ∙ is)
+unfolding placed
+write-calls list buffer done-is is answered left =
+    by-sites (readList list) (ap outcomeOf (sym done-is) ∙ is) ∙ sym (rw (answered, left, done-is))
   where
-    filled : Filled (outputOf list) buffer answer after
-    filled = sheet-filled buffer (placed-output list done-is is) answered left
+    by-room : (short : Bool) (sheet : List ℕ)
+        → sheetIn short sheet buffer ≡ asCalled (writeWhere true short sheet) (filledWhere (writeWhere true short sheet) sheet buffer)
+    by-room true sheet = refl
+    by-room false sheet = refl
 
-    by-sites : (sites : Sites) → readList list ≡ sites → listPlaced sites .outcome ≡ Done → calledFor sites buffer ≡ asCalled answer after
-    by-sites (accepted []) read is = let z : _≡_ {A = ℕ} 0 1 = cc in absurd (omega arith)
-    by-sites (accepted (site ∷ sites)) read is =
-        filled-called (sheetOf (site ∷ sites)) buffer
-        (subst (λ (sheet : List ℕ). Filled sheet buffer answer after) (output-sheet list (site ∷ sites) read (omega arith)) filled)
-    by-sites (refused other) read is = let z : _≡_ {A = ℕ} 0 1 = cc in absurd (omega arith)
+    by-sites : (sites : Sites) → listPlaced sites .outcome ≡ Done
+        → calledFor sites buffer ≡ asCalled (written (listPlaced sites .plan) buffer) (bufferAfter (listPlaced sites .plan) buffer)
+    by-sites (accepted []) is = let z : _≡_ {A = ℕ} 0 1 = cc in absurd (omega arith)
+    by-sites (accepted (site ∷ sites)) is =
+        let sheet = sheetOf (site ∷ sites) in
+        rw (sites-placed (site ∷ sites)) (by-room (ltb (length buffer) (length sheet)) sheet)
+    by-sites (refused other) is = let z : _≡_ {A = ℕ} 0 1 = cc in absurd (omega arith)

@@ -6,39 +6,12 @@ use Prim.Native.Nat.{ℕ, _+_, _≤_}
 use native.Mathlib.Omega.{arith}
 use lib.ListN.{length, length-append}
 use Rattle.plan.specs.declared.refusal.Refusal.{Refusal}
-use Rattle.plan.specs.declared.refusal.Refusal.the-variants.{
-  Line,
-  Name,
-  Coordinate,
-  NameTaken,
-  PlaceTaken,
-  NoSuchSite,
-  Full,
-  NoSites,
-  NotPlaced,
-  ShortBuffer,
-  ShortTable,
-}
-use Rattle.plan.specs.rules.Refusal.{numberOf}
+use Rattle.plan.specs.rules.Refusal.{numberOf, number-small}
 use Rattle.plan.specs.rules.Text.{tab, lineFeed}
 use Rattle.plan.specs.rules.Number.{decimal, mostDigits, decimal-short}
 use Rattle.plan.specs.rules.Output.{refusedWord, refusalLine}
 
--- Numbers of refusals end with 11.
-pub number-small : (why : Refusal) → numberOf why ≤ 11
-number-small Line = omega arith
-number-small Name = omega arith
-number-small Coordinate = omega arith
-number-small NameTaken = omega arith
-number-small PlaceTaken = omega arith
-number-small NoSuchSite = omega arith
-number-small Full = omega arith
-number-small NoSites = omega arith
-number-small NotPlaced = omega arith
-number-small ShortBuffer = omega arith
-number-small ShortTable = omega arith
-
--- So they are written in at most five digits,
+-- The numbers of refusals are written in at most five digits,
 pub number-short : (why : Refusal) → length (decimal (numberOf why)) ≤ mostDigits
 number-short why = decimal-short (numberOf why) (omega (arith, number-small why))
 

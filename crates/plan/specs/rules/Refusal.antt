@@ -1,6 +1,7 @@
 -- Document 01, "Refused because of the input" and "Refused because of the state".
 -- Assumes nothing.
-use Prim.Native.Nat.{ℕ}
+use Prim.Native.Nat.{ℕ, _≤_}
+use native.Mathlib.Omega.{arith}
 use Rattle.plan.specs.declared.refusal.Refusal.{Refusal}
 use Rattle.plan.specs.declared.refusal.Refusal.the-variants.{Line, Name, Coordinate, NameTaken, PlaceTaken, NoSuchSite, Full, NoSites, NotPlaced, ShortBuffer, ShortTable}
 
@@ -28,3 +29,17 @@ numberOf NotPlaced = 9
 numberOf ShortBuffer = 10
 -- the work table is shorter than n × n
 numberOf ShortTable = 11
+
+-- Numbers of refusals end with 11.
+pub number-small : (why : Refusal) → numberOf why ≤ 11
+number-small Line = omega arith
+number-small Name = omega arith
+number-small Coordinate = omega arith
+number-small NameTaken = omega arith
+number-small PlaceTaken = omega arith
+number-small NoSuchSite = omega arith
+number-small Full = omega arith
+number-small NoSites = omega arith
+number-small NotPlaced = omega arith
+number-small ShortBuffer = omega arith
+number-small ShortTable = omega arith

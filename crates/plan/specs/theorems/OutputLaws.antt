@@ -1,18 +1,22 @@
--- The output for a text meets the three demands, and is at most 5,531 bytes long.
+-- The output for a text meets the three demands, is at most 5,531 bytes long, and lies within the buffer that it is written into.
 -- Assumes nothing.
 use mathlib.Core.Path.{_≡_, refl, ap}
+use mathlib.Core.Bool.{Bool, true, false}
 use mathlib.Core.List.{List, [], _∷_}
 use Prim.Native.Nat.{ℕ, _≤_}
 use native.Mathlib.Omega.{arith}
-use lib.ListN.{length}
+use lib.Dec.{ltb}
+use lib.ListN.{length, drop, length-append}
 use Rattle.placing.specs.rules.Answer.{answerOf, answer-is}
+use Rattle.plan.specs.declared.plan.Written.{Written}
+use Rattle.plan.specs.declared.plan.Written.the-variants.{Bytes, NotWritten}
 use Rattle.plan.specs.declared.refusal.Refusal.the-variants.{NoSites}
 use Rattle.plan.specs.rules.Site.{Site, placesOf, Listed}
 use Rattle.plan.specs.rules.Enter.{Sites, accepted, refused}
 use Rattle.plan.specs.rules.List.{readList, read-listed}
 use Rattle.plan.specs.rules.Sheet.{sheetOf, sheet-longest, longestSheet}
-use Rattle.plan.specs.rules.Calls.{sitesNumber}
-use Rattle.plan.specs.rules.Output.{numberLine, refusalLine, outputFor, outputOf, output-sheet}
+use Rattle.plan.specs.rules.Calls.{sitesNumber, filledWhere}
+use Rattle.plan.specs.rules.Output.{numberLine, refusalLine, outputFor, outputOf, output-sheet, outputWhere, outputWritten, outputAfter}
 use Rattle.plan.specs.code.Refusing.{refusal-short}
 use Rattle.plan.specs.Demands.{Accepts, Answered, Right, ReadsOff, Demanded}
 use Rattle.plan.specs.theorems.SheetLaws.{sheet-carries, text-again, output-again, no-rival, number-read, spots-on-sheet}
@@ -70,3 +74,20 @@ output-longest text = by-sites (readList text) refl
     by-sites (accepted []) read = omega (arith, refusal-short NoSites)
     by-sites (accepted (site ∷ sites)) read = sheet-longest (site ∷ sites) (read-listed text (site ∷ sites) read)
     by-sites (refused why) read = omega (arith, refusal-short why)
+
+-- The bytes written lie within the buffer.
+abbrev pub WrittenWithin : Written → List ℕ → Type 0
+WrittenWithin (Bytes n) buffer = n ≤ length buffer
+WrittenWithin (NotWritten why) buffer = Unit {0}
+
+-- Whatever output is written lies within the buffer afterwards,
+within-filled : (short : Bool) (output buffer : List ℕ)
+    → WrittenWithin (outputWhere short output) (filledWhere (outputWhere short output) output buffer)
+within-filled true output buffer = tt
+within-filled false output buffer = omega (arith, length-append output (drop (length output) buffer))
+
+-- and so does what is written for a text.
+pub output-within : {written : Written} {after : List ℕ} (text buffer : List ℕ) → written ≡ outputWritten text buffer
+    → after ≡ outputAfter text buffer → WrittenWithin written after
+output-within text buffer is-written is-after =
+    rw (is-written, is-after) (within-filled (ltb (length buffer) (length (outputOf text))) (outputOf text) buffer)

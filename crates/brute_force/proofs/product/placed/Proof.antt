@@ -3,7 +3,7 @@ use mathlib.Core.Path.{sym}
 use lib.ListN.{take, replicate}
 use lib.Seq.{length-take-le}
 use borrow.Author.Needs.{needs}
-use Rattle.plan.specs.code.Within.{output-within}
+use Rattle.plan.specs.theorems.OutputLaws.{output-within}
 use Rattle.brute_force.proofs.product.placed.Statement.{statement}
 use Rattle.brute_force.proofs.product.placed.Tie as tie
 

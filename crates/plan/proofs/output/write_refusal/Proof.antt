@@ -9,7 +9,8 @@ use Rattle.plan.specs.rules.Number.{decimal, mostDigits}
 use Rattle.plan.specs.rules.Output.{refusalLine}
 use Rattle.plan.specs.code.Put.{Put}
 use Rattle.plan.specs.code.PutLaws.{put-then, put-same, put-length, put-room}
-use Rattle.plan.specs.code.Refusing.{number-small, number-short, longestRefusalLine, refusal-parts, refusal-short}
+use Rattle.plan.specs.rules.Refusal.{number-small}
+use Rattle.plan.specs.code.Refusing.{number-short, longestRefusalLine, refusal-parts, refusal-short}
 use Rattle.plan.specs.code.Filling.{filled-short, filled-copied}
 use Rattle.plan.proofs.output.write_refusal.Statement.{statement}
 use Rattle.plan.proofs.output.write_refusal.Tie as tie

@@ -5,8 +5,8 @@ use mathlib.Core.List.{List}
 use mathlib.Core.Path.{_≡_}
 use Prim.Native.Nat.{ℕ, zero, suc, _+_, _-_, _<_, _≤_}
 use lib.IntN.{ℤ, pos, negsuc}
-use lib.ListN.{length}
-use Rattle.plan.specs.theorems.Longer.{longestText}
+use lib.ListN.{length, take}
+use Rattle.plan.specs.rules.List.{longestText}
 use Rattle.place.specs.declared.Reading.{Reading}
 use Rattle.place.specs.declared.Step.{Step}
 use Rattle.place.specs.declared.Step.the-variants.{Got, Ended, Failed}
@@ -39,10 +39,12 @@ GotSome (Got n) = 0 < n
 GotSome Ended = Unit {0}
 GotSome Failed = Unit {0}
 
--- One read from `from` on: its bytes are counted, they lie within the room, and there is one or more, or none will come.
-pub record Onward (from : ℕ) (r : Reading) (room : List ℕ) : Type 0 where
+-- One read from `from` on: its bytes are counted and lie within the room, those before them stay, and there is one or more, or none
+-- will come.
+pub record Onward (from : ℕ) (before : List ℕ) (r : Reading) (room : List ℕ) : Type 0 where
   pub counted : r .at ≡ from + bytesOf (r .last)
   pub within : r .at ≤ length room
+  pub kept : take from room ≡ take from before
   pub some : GotSome (r .last)
 
 -- Reading is over: the bytes lie within the room, and the room is full, or the input ended, or a read failed.
@@ -56,9 +58,9 @@ Sound (Got n) = Unit {0}
 Sound Ended = Unit {0}
 Sound Failed = ⊥
 
--- A list that may be answered: its bytes lie within the room, the room holds "at most 5,061 bytes; these already decide every
--- longer text", and no read failed.
+-- A list that may be answered: reading is over, the room holds "at most 5,061 bytes; these already decide every longer text", and no
+-- read failed.
 pub record Whole (r : Reading) (room : List ℕ) : Type 0 where
-  pub within : r .at ≤ length room
+  pub finished : Finished r room
   pub room-for-all : length room ≡ longestText
   pub sound : Sound (r .last)

@@ -71,7 +71,7 @@ less-after (Got n) from to room counted some inside = omega arith
 less-after Ended from to room counted some inside = omega arith
 less-after Failed from to room counted some inside = omega arith
 
-pub left-falls : (r next : Reading) (room after : List ℕ) → 0 < roomLeft r room → length after ≡ length room → Onward (r .at) next after
+pub left-falls : (r next : Reading) (room after : List ℕ) → 0 < roomLeft r room → length after ≡ length room → Onward (r .at) room next after
     → roomLeft next after < roomLeft r room
 left-falls r next room after some same onward =
     omega (

@@ -10,7 +10,7 @@ ghost use mathlib.Core.Path.{_≡_};
 ghost use lib.ListN.{length, take};
 ghost use Rattle.place.specs.Input.{Finished, Onward, Whole, bytesOf, roomLeft, stepOf};
 ghost use Rattle.plan.specs.rules.Sheet.{longestSheet};
-ghost use Rattle.plan.specs.theorems.Longer.{longestText};
+ghost use Rattle.plan.specs.rules.List.{longestText};
 ghost use Rattle.place.specs.Reply.{Replied, lengthOf};
 
 // What one read did: it brought so many bytes, or found the end of the input, or failed.
@@ -67,7 +67,7 @@ fn room_left(reading: Reading, room: &[u8]) -> usize
 // One read into what is left of the room.
 fn read_once(text: &mut [u8], at: usize) -> Reading
     requires { ⌜ at < length (now text) ⌝ }
-    ensures { λ r. ⌜ Onward at r (now (text .exit)) ⌝ }
+    ensures { λ r. ⌜ Onward at (now (text .entry)) r (now (text .exit)) ⌝ }
 {
     let got = libc::read(STDIN_FILENO, &mut text[at..]);
     let step = step_of(got);

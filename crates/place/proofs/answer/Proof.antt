@@ -30,7 +30,7 @@ write-all-requires c κs = search needs
 
 answer-list-requires : tie.Need-answer-list-requires
 answer-list-requires c κs =
-    record { within = search needs; room-for-all = search needs; sound = unfailed (c .before .before .args .reading .last) (c .match .keys2) }
+    record { finished = search needs; room-for-all = search needs; sound = unfailed (c .before .before .args .reading .last) (c .match .keys2) }
 
 returns : tie.Need-returns
 returns c = search needs

@@ -1,10 +1,11 @@
--- `place::read_once` meets its contract: the bytes that come are counted and lie within the text.
+-- `place::read_once` meets its contract: the bytes that come are counted and lie within the text, behind those read before.
 -- Assumes nothing.
 use mathlib.Core.Path.{_≡_}
-use Prim.Native.Nat.{_+_, _≤_}
+use Prim.Native.Nat.{_+_, _-_, _≤_}
 use native.Mathlib.Omega.{arith}
 use lib.ListN.{length}
 use borrow.Author.Needs.{needs, sfits-of}
+use borrow.Rule.Slice.PartMut.{take-put}
 use mir.Facts.{toZ-ofZ}
 use Rattle.place.specs.Input.{stepOf}
 use Rattle.place.specs.InputLaws.{got-some, read-within}
@@ -49,7 +50,15 @@ same-length c = search needs
 
 returns : tie.Need-returns
 returns c =
-    record { counted = omega (arith, c .bytes-of .ensures); within = omega (arith, reached c); some = rw (stepped c) (got-some (c .before .before .before .before .read .result)) }
+    let start = c .before .before .before .before .before .before .before in
+    let read = c .before .before .before .before .read in
+    let text = start .args .text .now in
+    record {
+      counted = omega (arith, c .bytes-of .ensures);
+      within = omega (arith, reached c);
+      kept = take-put (start .args .at) (length text - start .args .at) text (read .last .1 .0) (omega (arith, start .pre));
+      some = rw (stepped c) (got-some (read .result));
+    }
 
 pub read-once-spec : {M : Type 1} → statement M
 read-once-spec =

@@ -12,7 +12,7 @@ use Rattle.place.proofs.reply.Tie as tie
 slice-aggregate-output : tie.Need-slice-aggregate-output
 slice-aggregate-output c =
     let start = c .before .before .before in
-    sym (length-take-le _ (start .args .text .now) (omega (arith, start .pre .0 .within)))
+    sym (length-take-le _ (start .args .text .now) (omega (arith, start .pre .0 .finished .within)))
 
 output-requires : tie.Need-output-requires
 output-requires c κs = search needs

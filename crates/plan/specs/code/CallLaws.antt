@@ -1,7 +1,7 @@
 -- The answers of the calls, test by test.
 -- Assumes nothing.
 use mathlib.Core.Path.{_≡_, refl, sym, ap, ap₂, _∙_, subst}
-use mathlib.Core.Bool.{Bool, true, false, false≢true}
+use mathlib.Core.Bool.{Bool, true, false}
 use mathlib.Core.List.{List, _++_}
 use Prim.Native.Nat.{ℕ, _*_, _≤_, _<_}
 use native.Mathlib.Omega.{arith}
@@ -18,7 +18,7 @@ use Rattle.plan.specs.declared.plan.AskedSide.the-variants.{SideIs, NoSi
 use Rattle.plan.specs.declared.plan.AskedCorner.the-variants.{CornerIs, NoCorner}
 use Rattle.plan.specs.rules.Site.{Site, Listed}
 use Rattle.plan.specs.rules.Enter.{Sites, accepted, refused}
-use Rattle.plan.specs.rules.Plan.{unplaced, placed, sitesIn, sites-unplaced, sites-placed, Valid, is-unplaced, is-placed}
+use Rattle.plan.specs.rules.Plan.{unplaced, placed, sitesIn, sites-unplaced, Valid, is-unplaced, is-placed}
 use Rattle.plan.specs.rules.Calls.{plannedOr, placedIn, tableAfter, clearedWhere, answerFor, sideWhere, sideAsked, cornerWhere, cornerAsked}
 use Rattle.plan.specs.rules.Calls.{outcomeNumber, placeNumber}
 use Rattle.plan.specs.theorems.Numbers.{place-number}
@@ -100,15 +100,6 @@ unfolding unplaced
 unplaced-placed sites table listed nonempty room =
     placed-done (unplaced sites) table (λ none. omega arith) room
     ∙ ap (λ (l : List Site). record { outcome = Done; plan = placed l }) (sites-unplaced sites)
-
--- "Placing a placed plan gives the same answer again": the same plan.
-pub placed-again : {plan : Plan} (table : List ℕ) → Valid plan → plan .placed ≡ true → plan .count * plan .count ≤ length table
-    → placedIn plan table ≡ record { outcome = Done; plan = plan }
-unfolding unplaced placed
-placed-again table (is-unplaced sites listed) is-so room = absurd (false≢true is-so)
-placed-again table (is-placed sites listed nonempty) is-so room =
-    placed-done (placed sites) table (λ none. omega arith) room
-    ∙ ap (λ (l : List Site). record { outcome = Done; plan = placed l }) (sites-placed sites)
 
 -- ---- asking: tests 9, 6
 

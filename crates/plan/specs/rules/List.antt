@@ -5,13 +5,13 @@ use mathlib.Core.Path.{_≡_, refl, sym, ap, _∙_, subst}
 use mathlib.Core.Bool.{true, not}
 use mathlib.Core.List.{List, [], _∷_, _++_, append-assoc, append-nil}
 use mathlib.Core.Option.{Option, some, none}
-use Prim.Native.Nat.{ℕ, zero, suc, _+_, _≤_, _<_}
+use Prim.Native.Nat.{ℕ, zero, suc, _+_, _*_, _≤_, _<_}
 use native.Mathlib.Decide.{decLe}
 use native.Mathlib.Omega.{arith}
 use borrow.Author.Tests.{le-leb, lt-leb, not-false}
 use lib.ListN.{length, length-append}
 use lib.Seq.{append-snoc}
-use Rattle.placing.specs.rules.Units.{greatestCoordinate, xOf, yOf}
+use Rattle.placing.specs.rules.Units.{greatestCoordinate, mostSites, xOf, yOf}
 use Rattle.plan.specs.declared.refusal.Refusal.the-variants.{Line, Name, Coordinate}
 use Rattle.plan.specs.rules.Text.{tab, lineFeed, Cut, firstLine, fieldsOf, endedLine}
 use Rattle.plan.specs.rules.Text.{Without, CutOf, cut-found, cut-is, without-append, joined, fields-one, fields-more, fields-joined}
@@ -62,6 +62,11 @@ readLines (suc k) sites text = readOn (readLines k) sites text
 -- "An empty text is a list of no sites." A text has at most as many lines as bytes.
 unfoldable pub readList : List ℕ → Sites
 readList text = readLines (length text) [] text
+
+-- The most bytes that the program reads, "these already decide every longer text": a line for each site and one more, with their line
+-- feeds, 5,061 bytes.
+abbrev pub longestText : ℕ
+longestText = (mostSites + 1) * endedLine
 
 -- The line of a site in a list, without its line feed: "name, x, y, parted by one tab each".
 unfoldable pub listLine : Site → List ℕ

@@ -2,7 +2,7 @@
 -- plan it gets, and every call is proved to keep it." What the contracts ask is exactly that.
 -- Assumes nothing.
 use mathlib.Core.Path.{_≡_, refl, ap, _∙_, subst}
-use mathlib.Core.Bool.{Bool, true, false, not, _&&_}
+use mathlib.Core.Bool.{Bool, true, false, false≢true, not, _&&_}
 use mathlib.Core.List.{List, [], _∷_}
 use Prim.Native.Nat.{ℕ, _+_, _*_, _≤_}
 use native.Mathlib.Omega.{arith}
@@ -18,10 +18,10 @@ use Rattle.plan.specs.rules.Name.{isName}
 use Rattle.plan.specs.rules.Site.{Site, Listed, placeAt}
 use Rattle.plan.specs.rules.Enter.{appended, Sites, accepted, refused, accepted-if, appended-more, entered, entered-listed, listed-none}
 use Rattle.plan.specs.rules.List.{readList, readLines, listText, read-listed, list-read}
-use Rattle.plan.specs.rules.Plan.{unplaced, sitesIn, sites-unplaced, sites-placed, Valid, is-unplaced, is-placed}
+use Rattle.plan.specs.rules.Plan.{unplaced, placed, sitesIn, sites-unplaced, sites-placed, Valid, is-unplaced, is-placed}
 use Rattle.plan.specs.rules.Calls.{started, plannedOr, enteredIn, readFrom, placeWhere, placedIn, counted}
 use Rattle.plan.specs.code.PlanLaws.{Holding, valid-holding}
-use Rattle.plan.specs.code.CallLaws.{unplaced-placed}
+use Rattle.plan.specs.code.CallLaws.{placed-done, unplaced-placed}
 
 -- A plan that some run of the calls hands back. Side, corner, count and write hand none back.
 pub data HandedBack : Plan → Type 0 where
@@ -92,6 +92,17 @@ handed-valid by-start = is-unplaced [] listed-none
 handed-valid (by-enter name x y before) = enter-valid name x y (handed-valid before)
 handed-valid (by-read text) = read-valid text
 handed-valid (by-place table before) = place-valid table (handed-valid before)
+
+-- ---- placing again
+
+-- "Placing a placed plan gives the same answer again": the same plan.
+pub placed-again : {plan : Plan} (table : List ℕ) → Valid plan → plan .placed ≡ true → plan .count * plan .count ≤ length table
+    → placedIn plan table ≡ record { outcome = Done; plan = plan }
+unfolding unplaced placed
+placed-again table (is-unplaced sites listed) is-so room = absurd (false≢true is-so)
+placed-again table (is-placed sites listed nonempty) is-so room =
+    placed-done (placed sites) table (λ none. omega arith) room
+    ∙ ap (λ (l : List Site). record { outcome = Done; plan = placed l }) (sites-placed sites)
 
 -- ---- the count is the number of sites entered
 

@@ -13,14 +13,10 @@ use Rattle.plan.specs.declared.refusal.Refusal.the-variants.{Line}
 use Rattle.plan.specs.rules.Text.{lineFeed, Cut, cutWithin, firstLine, CutOf, cut-found, cut-is, endedLine}
 use Rattle.plan.specs.rules.Site.{Site}
 use Rattle.plan.specs.rules.Enter.{Sites, accepted, refused, appended-more, appended-fresh}
-use Rattle.plan.specs.rules.List.{enteredLine, afterLine, withLine, readLines, readList}
+use Rattle.plan.specs.rules.List.{enteredLine, afterLine, withLine, readLines, readList, longestText}
 use Rattle.plan.specs.rules.List.{read-next, read-whole, read-enough, cut-length, entered-line}
 use Rattle.plan.specs.rules.Output.{outputFor, outputOf}
 use Rattle.placing.specs.rules.Units.{mostSites}
-
--- A line for each site and one more, with their line feeds: 5,061 bytes.
-abbrev pub longestText : ℕ
-longestText = (mostSites + 1) * endedLine
 
 -- A cut text that is shortened after its first k bytes is cut at the same place, and its rest is shortened.
 cut-take : (k m : ℕ) (text : List ℕ) (cut : Cut) → CutOf k text cut → k ≤ m

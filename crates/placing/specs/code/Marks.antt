@@ -1,10 +1,11 @@
--- The lent table in which a trial marks the sites whose decisions have been carried out: what looking for a site that waits and
--- marking the decided sites have done by the time they come to a site, and how many sites have no mark yet.
+-- The lent table in which a trial marks the sites whose decisions have been carried out: what marking the decided sites has done by
+-- the time it comes to a site, what holds where no site waits, and how many sites have no mark yet.
 -- Assumes nothing.
 use mathlib.Core.Path.{_≡_, refl, sym, ap, _∙_}
 use mathlib.Core.List.{List}
 use mathlib.Core.Logic.{_≢_}
 use mathlib.Core.Bool.{cond}
+use mathlib.Core.HLevel.{dec→stable}
 use Prim.Native.Nat.{ℕ, zero, suc, _+_, _-_, _≤_, _<_}
 use native.Mathlib.Nat.{not-suc-le-zero}
 use native.Mathlib.Decide.{ℕ-discrete}
@@ -15,11 +16,7 @@ use lib.Dec.{eqb}
 use lib.ListN.{length, getD, set, drop, length-set}
 use lib.Seq.{getD-set-same, getD-set-other, drop-set-lt, drop-drop}
 use Rattle.placing.specs.rules.Choice.{cornerAt}
-use Rattle.placing.specs.code.Ways.{Waits, FirstWaiting, Kept, markOf, Marked}
-
--- Of the sites below k every decided one is marked.
-pub record NoneWaits (decided marks : List ℕ) (k : ℕ) : Type 0 where
-  pub none-waits : (j : ℕ) → j < k → cornerAt decided j ≢ 0 → getD marks j 0 ≡ 1
+use Rattle.placing.specs.code.Ways.{FirstWaiting, Kept, markOf, Marked}
 
 -- The decided sites below j have been marked, and the table is as it was from n on.
 pub record Marking (decided : List ℕ) (n : ℕ) (table marks : List ℕ) (j : ℕ) : Type 0 where
@@ -78,33 +75,11 @@ kept-further {n} {table} {later} m h kept =
     ap (λ (k : ℕ). drop k later) (sym split) ∙ sym (drop-drop (m - n) n later) ∙ ap (drop (m - n)) (kept .rest)
     ∙ drop-drop (m - n) n table ∙ ap (λ (k : ℕ). drop k table) split
 
--- Before the first site none waits.
-pub none-waits-start : {decided marks : List ℕ} → NoneWaits decided marks 0
-none-waits-start = record { none-waits = λ j h. absurd (not-suc-le-zero h) }
-
--- The next site does not wait either.
-pub none-waits-on : {decided marks : List ℕ} {k : ℕ} → NoneWaits decided marks k → (Waits decided marks k → ⊥)
-    → NoneWaits decided marks (k + 1)
-none-waits-on {decided} {marks} {k} so-far next =
-    record { none-waits = below-more _ _ (so-far .none-waits) (λ d. from (ℕ-discrete (getD marks k 0) 1) d) }
-  where
-    from : Dec (getD marks k 0 ≡ 1) → cornerAt decided k ≢ 0 → getD marks k 0 ≡ 1
-    from (yes mark) d = mark
-    from (no none) d = absurd (next (record { is-decided = d; unmarked = none }))
-
--- The search ends at a site that waits ..
-pub waiting-found : {decided marks : List ℕ} {n k : ℕ} → k < n → Waits decided marks k
-    → FirstWaiting decided marks n k
-waiting-found h waits = record { at-most = omega arith; found = λ l. waits; none-waits = λ e. absurd (omega arith) }
-
--- .. or past the last site.
-pub waiting-none : {decided marks : List ℕ} {n k : ℕ} → n ≤ k → NoneWaits decided marks k → FirstWaiting decided marks n n
-waiting-none least so-far =
-    record {
-      at-most = omega arith;
-      found = λ l. absurd (omega arith);
-      none-waits = λ e j h. so-far .none-waits j (omega arith);
-    }
+-- Where no site waits, every decided one is marked.
+pub none-waits-marked : {decided marks : List ℕ} {n : ℕ} → FirstWaiting decided marks n n
+    → (j : ℕ) → j < n → cornerAt decided j ≢ 0 → getD marks j 0 ≡ 1
+none-waits-marked {decided} {marks} first j h d =
+    dec→stable (ℕ-discrete (getD marks j 0) 1) (λ none. first .none-before j h (record { is-decided = d; unmarked = none }))
 
 -- Marking starts with the table as it is.
 pub marking-starts : {decided table : List ℕ} {n : ℕ} → Marking decided n table table 0

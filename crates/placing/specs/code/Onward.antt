@@ -19,7 +19,7 @@ use Rattle.placing.specs.code.Ways.{Sizes, AllSettled, TakenCorner, Carr
 use Rattle.placing.specs.code.Sites.{Held}
 use Rattle.placing.specs.code.Labels.{labels, meet-equal}
 use Rattle.placing.specs.code.Asks.{MayCarryOut}
-use Rattle.placing.specs.code.Marks.{kept-same, kept-set}
+use Rattle.placing.specs.code.Marks.{kept-same, kept-set, none-waits-marked}
 
 -- Some decisions have been carried out since the state ways₀, decided₀: the marked ones.
 pub record CarryingOn (P : Problem) (ways₀ decided₀ marks₀ ways decided marks : List ℕ) : Type 0 where
@@ -61,7 +61,7 @@ module _ {P : Problem} {ways₀ decided₀ marks₀ ways decided marks : List �
   carrying-ends first none =
       record {
         sizes = so-far .sizes;
-        closed = λ e. trial-closed (so-far .underway) (first .none-waits none);
+        closed = λ e. trial-closed (so-far .underway) (none-waits-marked (rw none at first));
         onward = λ e. so-far .onward;
         refused = λ e. absurd (true≢false e);
       }

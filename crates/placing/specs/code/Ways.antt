@@ -127,7 +127,7 @@ pub record Waits (decided marks : List ℕ) (k : ℕ) : Type 0 where
 pub record FirstWaiting (decided marks : List ℕ) (n k : ℕ) : Type 0 where
   pub at-most : k ≤ n
   pub found : k < n → Waits decided marks k
-  pub none-waits : k ≡ n → (j : ℕ) → j < n → cornerAt decided j ≢ 0 → getD marks j 0 ≡ 1
+  pub none-before : (j : ℕ) → j < k → Waits decided marks j → ⊥
 
 -- The bytes of a lent table from n on are as they were, and so is its length.
 pub record Kept (n : ℕ) (table table′ : List ℕ) : Type 0 where

@@ -1,26 +1,32 @@
 -- `placing::trial::first_waiting` meets its contract. The loop's invariant: no site passed waits.
 -- Assumes nothing.
-use Prim.Native.Nat.{_≤_, _-_}
+use Prim.Native.Nat.{ℕ, _≤_, _<_, _-_}
 use native.Mathlib.Omega.{arith}
 use borrow.Author.Needs.{needs}
-use Rattle.placing.specs.code.Marks.{NoneWaits, none-waits-start, none-waits-on, waiting-found, waiting-none}
+use borrow.Author.Count.{below-none, below-more}
+use Rattle.placing.specs.code.Ways.{Waits}
 use Rattle.placing.proofs.trial.first_waiting.Statement.{statement}
 use Rattle.placing.proofs.trial.first_waiting.Tie as tie
 
 abbrev Inv-loop : tie.InvT-loop
-Inv-loop decided marks n k₀ k = (k ≤ n) × NoneWaits decided marks k
+Inv-loop decided marks n k₀ k = (k ≤ n) × ((j : ℕ) → j < k → Waits decided marks j → ⊥)
 
 abbrev μ-loop : tie.MeasureT-loop
 μ-loop decided marks n k₀ k = n - k
 
 loop-holds : tie.Need-loop-holds Inv-loop μ-loop
-loop-holds c = (omega arith, none-waits-start)
+loop-holds c = (omega arith, below-none _)
 
 waits-requires : tie.Need-waits-requires Inv-loop μ-loop
 waits-requires c κs = search needs
 
 returns : tie.Need-returns Inv-loop μ-loop
-returns c = waiting-found (omega arith) (c .before .waits .ensures .yes-holds (c .if1 .taken))
+returns c =
+    record {
+      at-most = omega arith;
+      found = λ h. c .before .waits .ensures .yes-holds (c .if1 .taken);
+      none-before = c .before .before .before .loop .inv .1;
+    }
 
 add-k : tie.Need-add-k Inv-loop μ-loop
 add-k c = omega arith
@@ -31,10 +37,15 @@ loop-less c = omega arith
 loop-again : tie.Need-loop-again Inv-loop μ-loop
 loop-again c =
     let so-far = c .before .before .before .loop .inv .1 in
-    (omega arith, none-waits-on so-far (c .before .waits .ensures .no-fails (c .if1 .left)))
+    (omega arith, below-more _ _ so-far (c .before .waits .ensures .no-fails (c .if1 .left)))
 
 returns-2 : tie.Need-returns-2 Inv-loop μ-loop
-returns-2 c = waiting-none (c .loop-test .left) (c .before .loop .inv .1)
+returns-2 c =
+    record {
+      at-most = omega arith;
+      found = λ h. absurd (omega arith);
+      none-before = λ j h. c .before .loop .inv .1 j (omega arith);
+    }
 
 pub first-waiting-spec : {M : Type 1} → statement M
 first-waiting-spec =

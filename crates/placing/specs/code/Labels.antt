@@ -1,6 +1,6 @@
 -- Labels of side h as a problem of candidates and conflicts: a corner is a candidate where it is not crowded, and two corners of
--- different sites are in conflict where their labels meet. The two-way fact is theorem 3 of the rules, and the only geometry that
--- the search asks for.
+-- different sites are in conflict where their labels meet. Of the geometry the search takes the two-way fact, theorem 3
+-- (`one-of-three`), and that meeting is symmetric.
 -- Assumes nothing.
 use mathlib.Core.Path.{_≡_, sym, _∙_}
 use mathlib.Core.List.{List}

@@ -244,7 +244,7 @@ module _ (h : ℕ) (ps : List Place) where
             two-ways listed j-listed differ of-a (rw (← is-x) of-c) (rw (← is-y) of-b) other;
       }
 
-  -- Of three different uncrowded corners of a site one is alone.
+  -- Theorem 3: of three different uncrowded corners of a site one is alone.
   pub one-of-three : {i a b c : ℕ} → i < length ps → a ≢ b → a ≢ c → b ≢ c → Corner a → Corner b → Corner c
       → (Crowded h ps i a → ⊥) → (Crowded h ps i b → ⊥) → (Crowded h ps i c → ⊥) → Alone i a ⊎ (Alone i b ⊎ Alone i c)
   one-of-three listed a≢b a≢c b≢c a-corner b-corner c-corner of-a of-b of-c =

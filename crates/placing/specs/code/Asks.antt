@@ -15,7 +15,7 @@ use Rattle.placing.specs.code.Crowding.{CrowdingIs}
 use Rattle.placing.specs.search.Rows.{rowOf}
 use Rattle.placing.specs.search.State.{Underway, Closed, Walked}
 use Rattle.placing.specs.code.Labels.{MeetAt, labels}
-use Rattle.placing.specs.code.Ways.{Sizes, Settled, AllSettled}
+use Rattle.placing.specs.code.Ways.{Done, Sizes, Settled, AllSettled}
 
 -- Of the open corners of site j only c has a label that meets the one at corner c of site k.
 pub record OnlyEqual (xs ys : List ℕ) (side : HalfUnits) (ways : List ℕ) (k c j : ℕ) : Type 0 where
@@ -46,7 +46,7 @@ pub record MayCarryOn (n : ℕ) (xs ys : List ℕ) (side : HalfUnits) (ways deci
   pub held : Held n xs ys side
   pub sizes : Sizes ways decided
   pub room : n ≤ length marks
-  pub underway : Underway (labels (side .0) n xs ys) ways decided marks
+  pub underway : Underway (labels (side .0) n xs ys) ways decided (Done marks)
 
 -- Trying corner c of site i.
 pub record MayTry (n : ℕ) (xs ys : List ℕ) (side : HalfUnits) (ways decided marks : List ℕ) (i c : ℕ) : Type 0 where

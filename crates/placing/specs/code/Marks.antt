@@ -16,7 +16,7 @@ use lib.Dec.{eqb}
 use lib.ListN.{length, getD, set, drop, length-set}
 use lib.Seq.{getD-set-same, getD-set-other, drop-set-lt, drop-drop}
 use Rattle.placing.specs.rules.Choice.{cornerAt}
-use Rattle.placing.specs.code.Ways.{FirstWaiting, Kept, markOf, Marked}
+use Rattle.placing.specs.code.Ways.{Done, FirstWaiting, Kept, markOf, Marked}
 
 -- The decided sites below j have been marked, and the table is as it was from n on.
 pub record Marking (decided : List ℕ) (n : ℕ) (table marks : List ℕ) (j : ℕ) : Type 0 where
@@ -77,7 +77,7 @@ kept-further {n} {table} {later} m h kept =
 
 -- Where no site waits, every decided one is marked.
 pub none-waits-marked : {decided marks : List ℕ} {n : ℕ} → FirstWaiting decided marks n n
-    → (j : ℕ) → j < n → cornerAt decided j ≢ 0 → getD marks j 0 ≡ 1
+    → (j : ℕ) → j < n → cornerAt decided j ≢ 0 → Done marks j
 none-waits-marked {decided} {marks} first j h d =
     dec→stable (ℕ-discrete (getD marks j 0) 1) (λ none. first .none-before j h (record { is-decided = d; unmarked = none }))
 

@@ -1,21 +1,21 @@
 -- A trial on the bytes of a state (specs/code/Ways): it takes a corner, then carries out one decision after another, with a table of
 -- marks, until a site is left with no corner or no decision waits. The laws of specs/search/Trial do the work.
 -- Assumes nothing.
-use mathlib.Core.Path.{_≡_, sym, ap}
+use mathlib.Core.Path.{_≡_, sym, ap, _∙_}
 use mathlib.Core.Bool.{Bool, true, false, true≢false}
 use mathlib.Core.List.{List}
 use mathlib.Core.Logic.{_≢_}
 use Prim.Native.Nat.{ℕ, _≤_, _<_}
 use native.Mathlib.Omega.{arith}
 use lib.ListN.{length, set, length-set}
-use lib.Seq.{getD-set-same, getD-set-other}
+use lib.Seq.{getD-set-other}
 use Rattle.placing.specs.declared.units.HalfUnits.{HalfUnits}
 use Rattle.placing.specs.rules.Choice.{cornerAt}
 use Rattle.placing.specs.search.Problem.{Problem}
 use Rattle.placing.specs.search.Rows.{rowOf}
 use Rattle.placing.specs.search.State.{Underway, Closed, Onward, Took}
 use Rattle.placing.specs.search.Trial.{trial-begins, trial-onward-start, carried-underway, carried-onward, stuck-refused, trial-closed}
-use Rattle.placing.specs.code.Ways.{Sizes, AllSettled, TakenCorner, CarriedOut, FirstWaiting, Kept, Marked, CarriedOn, Tried}
+use Rattle.placing.specs.code.Ways.{Done, Sizes, AllSettled, TakenCorner, CarriedOut, FirstWaiting, Kept, Marked, CarriedOn, Tried}
 use Rattle.placing.specs.code.Sites.{Held}
 use Rattle.placing.specs.code.Labels.{labels, meet-equal}
 use Rattle.placing.specs.code.Asks.{MayCarryOut}
@@ -26,13 +26,13 @@ pub record CarryingOn (P : Problem) (ways₀ decided₀ marks₀ ways decided ma
   pub sizes : Sizes ways decided
   pub room : P .n ≤ length marks
   pub kept : Kept (P .n) marks₀ marks
-  pub underway : Underway P ways decided marks
+  pub underway : Underway P ways decided (Done marks)
   pub onward : (w d : List ℕ) (i c : ℕ) → i < P .n → c ≢ 0
       → Onward P w d i c ways₀ decided₀ → Onward P w d i c ways decided
 
 -- Carrying on starts with the state as it is.
 pub carrying-starts : {P : Problem} {ways decided marks : List ℕ} → Sizes ways decided → P .n ≤ length marks
-    → Underway P ways decided marks → CarryingOn P ways decided marks ways decided marks
+    → Underway P ways decided (Done marks) → CarryingOn P ways decided marks ways decided marks
 carrying-starts sizes room underway =
     record {
       sizes = sizes;
@@ -82,7 +82,7 @@ module _ {P : Problem} {ways₀ decided₀ marks₀ ways decided marks : List �
             room = rw length-set (so-far .room);
             kept = kept-set 1 listed (so-far .kept);
             underway = carried-underway (so-far .underway) listed is-decided carried
-                (getD-set-same marks k 1 0 (omega arith)) (λ j h different. getD-set-other marks k j 1 0 different);
+                (λ j h different done. sym (getD-set-other marks k j 1 0 different) ∙ done);
             onward = λ w d i c h some onward.
                 carried-onward (so-far .underway) listed is-decided carried h some (so-far .onward w d i c h some onward);
           }
@@ -118,8 +118,8 @@ may-carry-out {n} {xs} {ys} {side} held so-far listed is-decided =
 module _ {P : Problem} {ways decided ways′ decided′ marks : List ℕ} {i c : ℕ}
     (closed : Closed P ways decided) (listed : i < P .n) (undecided : cornerAt decided i ≡ 0)
     (is-open : rowOf ways i c ≡ 1) (taken : TakenCorner ways decided i c ways′ decided′) (marked : Marked decided (P .n) marks) where
-  -- A trial starts by taking a corner, with the sites decided before marked.
-  took : Took P ways decided i c ways′ decided′ marks
+  -- A trial starts by taking a corner ..
+  took : Took P ways decided i c ways′ decided′
   took =
       record {
         takes = taken .takes;
@@ -127,15 +127,13 @@ module _ {P : Problem} {ways decided ways′ decided′ marks : List ℕ} {i c :
         alone = taken .lone .alone;
         others-open = λ j e h different. ap (λ (row : ℕ → ℕ). row e) (taken .elsewhere j different);
         others-decided = λ j h. taken .decided-elsewhere j;
-        marked = marked .marked;
-        unmarked = marked .unmarked;
       }
 
-  -- Then it is under way ..
-  pub taken-underway : Underway P ways′ decided′ marks
-  taken-underway = trial-begins closed listed undecided is-open took
+  -- .. and is under way, with the sites decided before marked.
+  pub taken-underway : Underway P ways′ decided′ (Done marks)
+  taken-underway = trial-begins closed listed undecided is-open took (λ j h done u. marked .unmarked j h u done)
 
-  -- .. and once it has carried on, the corner has been tried.
+  -- Once it has carried on, the corner has been tried.
   pub taken-tried : {ok : Bool} {ways″ decided″ : List ℕ} → CarriedOn P ways′ decided′ ok ways″ decided″
       → Tried P ways decided i c ok ways″ decided″
   taken-tried on =

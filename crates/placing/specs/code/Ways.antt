@@ -118,10 +118,14 @@ pub record CarriedOut (P : Problem) (ways decided : List ℕ) (k : ℕ) (ok : Bo
   pub carried : ok ≡ true → Carried P ways decided k ways′ decided′
   pub stuck : ok ≡ false → Stuck P ways decided k
 
+-- Site k is marked: its decision has been carried out.
+abbrev pub Done : List ℕ → ℕ → Type 0
+Done marks k = getD marks k 0 ≡ 1
+
 -- Site k waits: it is decided, and that has not been carried out.
 pub record Waits (decided marks : List ℕ) (k : ℕ) : Type 0 where
   pub is-decided : cornerAt decided k ≢ 0
-  pub unmarked : getD marks k 0 ≢ 1
+  pub unmarked : Done marks k → ⊥
 
 -- The first site that waits, or n.
 pub record FirstWaiting (decided marks : List ℕ) (n k : ℕ) : Type 0 where
@@ -141,8 +145,8 @@ markOf (suc c) = 1
 
 -- Exactly the decided sites are marked.
 pub record Marked (decided : List ℕ) (n : ℕ) (marks : List ℕ) : Type 0 where
-  pub marked : (j : ℕ) → j < n → cornerAt decided j ≢ 0 → getD marks j 0 ≡ 1
-  pub unmarked : (j : ℕ) → j < n → cornerAt decided j ≡ 0 → getD marks j 0 ≢ 1
+  pub marked : (j : ℕ) → j < n → cornerAt decided j ≢ 0 → Done marks j
+  pub unmarked : (j : ℕ) → j < n → cornerAt decided j ≡ 0 → Done marks j → ⊥
 
 -- All decisions were carried out, or a site was left with no corner.
 pub record CarriedOn (P : Problem) (ways decided : List ℕ) (ok : Bool) (ways′ decided′ : List ℕ) : Type 0 where

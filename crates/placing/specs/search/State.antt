@@ -5,7 +5,6 @@ use mathlib.Core.Path.{_≡_}
 use mathlib.Core.List.{List}
 use mathlib.Core.Logic.{_≢_, _⊎_}
 use Prim.Native.Nat.{ℕ, _<_}
-use lib.ListN.{getD}
 use Rattle.placing.specs.rules.Choice.{cornerAt}
 use Rattle.placing.specs.search.Problem.{Problem, Solution}
 use Rattle.placing.specs.search.Rows.{rowOf}
@@ -30,27 +29,21 @@ pub record ClosedBy (P : Problem) (decided : List ℕ) (i c : ℕ) : Type 0 wher
   pub is-decided : cornerAt decided by ≢ 0
   pub conflict : P .Conflict by (cornerAt decided by) i c
 
--- A state in which the decisions of the sites marked with 1 in `marks` have been carried out: every corner that they conflict with
--- is closed.
-pub record Underway (P : Problem) (ways decided marks : List ℕ) : Type 0 where
+-- A search under way. Open corners are candidates, and of a decided site the decided corner alone is open. A closed candidate of an
+-- undecided site is closed by a decision, and then two others are open. The decisions of the sites that are done have been carried
+-- out: every corner that they conflict with is closed.
+pub record Underway (P : Problem) (ways decided : List ℕ) (Done : ℕ → Type 0) : Type 0 where
   pub candidate : (i c : ℕ) → i < P .n → rowOf ways i c ≡ 1 → P .Candidate i c
   pub decided-open : (i : ℕ) → i < P .n → cornerAt decided i ≢ 0 → rowOf ways i (cornerAt decided i) ≡ 1
   pub decided-alone : (i c : ℕ) → i < P .n → cornerAt decided i ≢ 0 → rowOf ways i c ≡ 1 → c ≡ cornerAt decided i
   pub closed-by : (i c : ℕ) → i < P .n → cornerAt decided i ≡ 0 → P .Candidate i c → rowOf ways i c ≢ 1 → ClosedBy P decided i c
   pub two-left : (i c : ℕ) → i < P .n → cornerAt decided i ≡ 0 → P .Candidate i c → rowOf ways i c ≢ 1 → TwoOpen ways i
-  pub marked-decided : (i : ℕ) → i < P .n → getD marks i 0 ≡ 1 → cornerAt decided i ≢ 0
-  pub apart : (i j e : ℕ) → i < P .n → j < P .n → i ≢ j → getD marks i 0 ≡ 1 → rowOf ways j e ≡ 1
-      → P .Conflict i (cornerAt decided i) j e → ⊥
+  pub done-decided : (i : ℕ) → i < P .n → Done i → cornerAt decided i ≢ 0
+  pub apart : (i j e : ℕ) → i < P .n → j < P .n → i ≢ j → Done i → rowOf ways j e ≡ 1 → P .Conflict i (cornerAt decided i) j e → ⊥
 
 -- Every decision has been carried out.
-pub record Closed (P : Problem) (ways decided : List ℕ) : Type 0 where
-  pub candidate : (i c : ℕ) → i < P .n → rowOf ways i c ≡ 1 → P .Candidate i c
-  pub decided-open : (i : ℕ) → i < P .n → cornerAt decided i ≢ 0 → rowOf ways i (cornerAt decided i) ≡ 1
-  pub decided-alone : (i c : ℕ) → i < P .n → cornerAt decided i ≢ 0 → rowOf ways i c ≡ 1 → c ≡ cornerAt decided i
-  pub closed-by : (i c : ℕ) → i < P .n → cornerAt decided i ≡ 0 → P .Candidate i c → rowOf ways i c ≢ 1 → ClosedBy P decided i c
-  pub two-left : (i c : ℕ) → i < P .n → cornerAt decided i ≡ 0 → P .Candidate i c → rowOf ways i c ≢ 1 → TwoOpen ways i
-  pub apart : (i j e : ℕ) → i < P .n → j < P .n → i ≢ j → cornerAt decided i ≢ 0 → rowOf ways j e ≡ 1
-      → P .Conflict i (cornerAt decided i) j e → ⊥
+abbrev pub Closed : (P : Problem) (ways decided : List ℕ) → Type 0
+Closed P ways decided = Underway P ways decided (λ i. cornerAt decided i ≢ 0)
 
 -- Every corner of cs is open.
 pub record Follows (P : Problem) (ways cs : List ℕ) : Type 0 where
@@ -60,16 +53,13 @@ pub record Follows (P : Problem) (ways cs : List ℕ) : Type 0 where
 pub record Refused (P : Problem) (ways : List ℕ) (i c : ℕ) : Type 0 where
   pub refused : (cs : List ℕ) → Solution P cs → Follows P ways cs → cornerAt cs i ≡ c → ⊥
 
--- How a trial starts: corner c of site i is decided, which closes the site's other corners; the sites decided before count as
--- carried out.
-pub record Took (P : Problem) (ways decided : List ℕ) (i c : ℕ) (ways′ decided′ marks′ : List ℕ) : Type 0 where
+-- How a trial starts: corner c of site i is decided, which closes the site's other corners.
+pub record Took (P : Problem) (ways decided : List ℕ) (i c : ℕ) (ways′ decided′ : List ℕ) : Type 0 where
   pub takes : cornerAt decided′ i ≡ c
   pub is-open : rowOf ways′ i c ≡ 1
   pub alone : (e : ℕ) → rowOf ways′ i e ≡ 1 → e ≡ c
   pub others-open : (j e : ℕ) → j < P .n → j ≢ i → rowOf ways′ j e ≡ rowOf ways j e
   pub others-decided : (j : ℕ) → j < P .n → j ≢ i → cornerAt decided′ j ≡ cornerAt decided j
-  pub marked : (j : ℕ) → j < P .n → cornerAt decided j ≢ 0 → getD marks′ j 0 ≡ 1
-  pub unmarked : (j : ℕ) → j < P .n → cornerAt decided j ≡ 0 → getD marks′ j 0 ≢ 1
 
 -- What carrying out the decision of site k does to another site j: the corners in conflict close, a site left with one
 -- corner is decided, and a site left with none does not occur.

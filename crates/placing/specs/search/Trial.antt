@@ -7,7 +7,6 @@ use mathlib.Core.Logic.{_≢_, ⊎-elim}
 use Prim.Native.Nat.{ℕ, _<_}
 use native.Mathlib.Decide.{ℕ-discrete}
 use native.Mathlib.Omega.{arith}
-use lib.ListN.{getD}
 use Rattle.placing.specs.rules.Corner.{Corner}
 use Rattle.placing.specs.rules.Choice.{cornerAt}
 use Rattle.placing.specs.search.Problem.{Problem, Solution}
@@ -43,9 +42,9 @@ closed-by-stays stays c =
       conflict = rw same (c .conflict);
     }
 
-module _ {P : Problem} {ways ways′ decided decided′ marks′ : List ℕ} {i c : ℕ}
+module _ {P : Problem} {ways ways′ decided decided′ : List ℕ} {i c : ℕ}
     (closed : Closed P ways decided) (listed : i < P .n) (undecided : cornerAt decided i ≡ 0) (is-open : rowOf ways i c ≡ 1)
-    (took : Took P ways decided i c ways′ decided′ marks′) where
+    (took : Took P ways decided i c ways′ decided′) where
   -- Taking a corner opens none.
   took-closes : (j e : ℕ) → j < P .n → rowOf ways′ j e ≡ 1 → rowOf ways j e ≡ 1
   took-closes j e h o = from (ℕ-discrete j i)
@@ -70,13 +69,9 @@ module _ {P : Problem} {ways ways′ decided decided′ marks′ : List ℕ} {i 
   took-undecided : (j : ℕ) → cornerAt decided′ j ≡ 0 → j ≢ i
   took-undecided j u p = taken-decided (ap (cornerAt decided′) (sym p) ∙ u)
 
-  -- The sites that count as carried out were decided before.
-  marked-decided : (j : ℕ) → j < P .n → getD marks′ j 0 ≡ 1 → cornerAt decided j ≢ 0
-  marked-decided j h m u = took .unmarked j h u m
-
-  -- A trial starts with the sites decided before carried out.
-  pub trial-begins : Underway P ways′ decided′ marks′
-  trial-begins =
+  -- A trial starts where only sites decided before are done.
+  pub trial-begins : {Done : ℕ → Type 0} → ((j : ℕ) → j < P .n → Done j → cornerAt decided j ≢ 0) → Underway P ways′ decided′ Done
+  trial-begins before =
       record {
         candidate = λ j e h o. closed .candidate j e h (took-closes j e h o);
         decided-open = λ j h d. decided-open j h d (ℕ-discrete j i);
@@ -85,10 +80,10 @@ module _ {P : Problem} {ways ways′ decided decided′ marks′ : List ℕ} {i 
             closed-by-stays took-stays (closed .closed-by j e h (was-undecided j h u) candidate (was-shut j e h u shut));
         two-left = λ j e h u candidate shut.
             two-left j h (took-undecided j u) (closed .two-left j e h (was-undecided j h u) candidate (was-shut j e h u shut));
-        marked-decided = λ j h m. rw (took-stays j h (marked-decided j h m)) (marked-decided j h m);
-        apart = λ j k e h l different m o conflict.
-            closed .apart j k e h l different (marked-decided j h m) (took-closes k e l o)
-            (rw (took-stays j h (marked-decided j h m)) at conflict);
+        done-decided = λ j h done. rw (took-stays j h (before j h done)) (before j h done);
+        apart = λ j k e h l different done o conflict.
+            closed .apart j k e h l different (before j h done) (took-closes k e l o)
+            (rw (took-stays j h (before j h done)) at conflict);
       }
     where
       was-undecided : (j : ℕ) → j < P .n → cornerAt decided′ j ≡ 0 → cornerAt decided j ≡ 0
@@ -133,8 +128,8 @@ module _ {P : Problem} {ways ways′ decided decided′ marks′ : List ℕ} {i 
       follow cs follows takes j h (yes p) = rw (p, takes) (took .is-open)
       follow cs follows takes j h (no n) = took .others-open j (cornerAt cs j) h n ∙ follows .follows j h
 
-module _ {P : Problem} {ways decided marks : List ℕ} {k : ℕ}
-    (underway : Underway P ways decided marks) (listed : k < P .n) (is-decided : cornerAt decided k ≢ 0) where
+module _ {P : Problem} {ways decided : List ℕ} {Done : ℕ → Type 0} {k : ℕ}
+    (underway : Underway P ways decided Done) (listed : k < P .n) (is-decided : cornerAt decided k ≢ 0) where
   -- A solution that follows the state has the decided corner at site k, so no other corner of it conflicts with that one.
   decided-apart : (cs : List ℕ) → Solution P cs → Follows P ways cs → (j : ℕ) → j < P .n → j ≢ k
       → P .Conflict k (cornerAt decided k) j (cornerAt cs j) → ⊥
@@ -210,10 +205,9 @@ module _ {P : Problem} {ways decided marks : List ℕ} {k : ℕ}
           follows = λ cs solution follows takes. carried-follows cs solution (onward .follows cs solution follows takes);
         }
 
-    -- After the decision of site k is carried out and k is marked, the trial is under way with one more site done.
-    pub carried-underway : {marks′ : List ℕ} → getD marks′ k 0 ≡ 1 → ((j : ℕ) → j < P .n → j ≢ k → getD marks′ j 0 ≡ getD marks j 0)
-        → Underway P ways′ decided′ marks′
-    carried-underway {marks′} mark others =
+    -- After the decision of site k is carried out, the trial is under way with site k done too.
+    pub carried-underway : {Done′ : ℕ → Type 0} → ((j : ℕ) → j < P .n → j ≢ k → Done′ j → Done j) → Underway P ways′ decided′ Done′
+    carried-underway {Done′} others =
         record {
           candidate = λ j e h o. underway .candidate j e h (carried-closes j e h o);
           decided-open = λ j h d. decided-open j h d (ℕ-discrete (cornerAt decided j) 0);
@@ -222,11 +216,11 @@ module _ {P : Problem} {ways decided marks : List ℕ} {k : ℕ}
               closed-by j e h (was-undecided j h u) candidate shut (ℕ-discrete (rowOf ways j e) 1);
           two-left = λ j e h u candidate shut.
               two-left j e h u (was-undecided j h u) candidate shut (ℕ-discrete (rowOf ways j e) 1);
-          marked-decided = λ j h m.
-              rw (carried-stays j h (marked-decided j h m (ℕ-discrete j k))) (marked-decided j h m (ℕ-discrete j k));
-          apart = λ i j e h l different m o conflict.
-              apart i j e h l different m o
-              (rw (carried-stays i h (marked-decided i h m (ℕ-discrete i k))) at conflict) (ℕ-discrete i k);
+          done-decided = λ j h done.
+              rw (carried-stays j h (done-decided j h done (ℕ-discrete j k))) (done-decided j h done (ℕ-discrete j k));
+          apart = λ i j e h l different done o conflict.
+              apart i j e h l different done o
+              (rw (carried-stays i h (done-decided i h done (ℕ-discrete i k))) at conflict) (ℕ-discrete i k);
         }
       where
         decided-open : (j : ℕ) → j < P .n → cornerAt decided′ j ≢ 0 → Dec (cornerAt decided j ≡ 0)
@@ -267,20 +261,20 @@ module _ {P : Problem} {ways decided marks : List ℕ} {k : ℕ}
             let two = underway .two-left j e h w candidate n in
             two-open j h u w two (ℕ-discrete (rowOf ways′ j (two .one)) 1) (ℕ-discrete (rowOf ways′ j (two .two)) 1)
 
-        marked-decided : (j : ℕ) → j < P .n → getD marks′ j 0 ≡ 1 → Dec (j ≡ k) → cornerAt decided j ≢ 0
-        marked-decided j h m (yes p) = rw p is-decided
-        marked-decided j h m (no n) = underway .marked-decided j h (sym (others j h n) ∙ m)
+        done-decided : (j : ℕ) → j < P .n → Done′ j → Dec (j ≡ k) → cornerAt decided j ≢ 0
+        done-decided j h done (yes p) = rw p is-decided
+        done-decided j h done (no n) = underway .done-decided j h (others j h n done)
 
-        apart : (i j e : ℕ) → i < P .n → j < P .n → i ≢ j → getD marks′ i 0 ≡ 1 → rowOf ways′ j e ≡ 1
+        apart : (i j e : ℕ) → i < P .n → j < P .n → i ≢ j → Done′ i → rowOf ways′ j e ≡ 1
             → P .Conflict i (cornerAt decided i) j e → Dec (i ≡ k) → ⊥
-        apart i j e h l different m o conflict (yes p) =
+        apart i j e h l different done o conflict (yes p) =
             carried .others j l (λ q. different (p ∙ sym q)) .apart e o (rw p at conflict)
-        apart i j e h l different m o conflict (no n) =
-            underway .apart i j e h l different (sym (others i h n) ∙ m) (carried-closes j e l o) conflict
+        apart i j e h l different done o conflict (no n) =
+            underway .apart i j e h l different (others i h n done) (carried-closes j e l o) conflict
 
 -- A trial that has carried out every decision leaves a closed state.
-pub trial-closed : {P : Problem} {ways decided marks : List ℕ} → Underway P ways decided marks
-    → ((j : ℕ) → j < P .n → cornerAt decided j ≢ 0 → getD marks j 0 ≡ 1) → Closed P ways decided
+pub trial-closed : {P : Problem} {ways decided : List ℕ} {Done : ℕ → Type 0} → Underway P ways decided Done
+    → ((j : ℕ) → j < P .n → cornerAt decided j ≢ 0 → Done j) → Closed P ways decided
 trial-closed underway all =
     record {
       candidate = underway .candidate;
@@ -288,5 +282,6 @@ trial-closed underway all =
       decided-alone = underway .decided-alone;
       closed-by = underway .closed-by;
       two-left = underway .two-left;
+      done-decided = λ i h d. d;
       apart = λ i j e h l different d. underway .apart i j e h l different (all i h d);
     }

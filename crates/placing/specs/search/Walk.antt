@@ -24,6 +24,7 @@ walk-starts fresh =
         decided-alone = λ i c h d. absurd (d (fresh .undecided i h));
         closed-by = λ i c h u candidate shut. absurd (shut (fresh .all-open i c h candidate));
         two-left = λ i c h u candidate shut. absurd (shut (fresh .all-open i c h candidate));
+        done-decided = λ i h d. d;
         apart = λ i j e h l different d. absurd (d (fresh .undecided i h));
       };
       all-decided = λ j none. absurd (omega arith);

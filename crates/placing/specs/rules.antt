@@ -6,6 +6,7 @@ pub mod Cover
 pub mod Meet
 pub mod Crowd
 pub mod Choice
+pub mod Tests
 pub mod Enumerate
 pub mod Answer
 pub mod Placing

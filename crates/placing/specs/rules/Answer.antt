@@ -14,7 +14,7 @@ use Rattle.placing.specs.declared.units.Side.{Side}
 use Rattle.placing.specs.declared.units.Side.the-variants.{Number, Free}
 use Rattle.placing.specs.rules.Units.{Distinct, greatestSide, freeSide}
 use Rattle.placing.specs.rules.Choice.{Good, First, good-smaller, good-one-exists, first-unique}
-use Rattle.placing.specs.theorems.Decide.{good?}
+use Rattle.placing.specs.rules.Tests.{good?}
 use Rattle.placing.specs.rules.Enumerate.{
   firstOf,
   FirstWith,

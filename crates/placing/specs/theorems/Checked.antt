@@ -14,7 +14,7 @@ use Rattle.placing.specs.declared.units.Side.{Side}
 use Rattle.placing.specs.declared.units.Side.the-variants.{Number, Free}
 use Rattle.placing.specs.rules.Units.{siteAt, samePlace, Distinct, greatestSide, freeSide}
 use Rattle.placing.specs.rules.Decides.{Decides, decides-same, decides-no, decides-yes}
-use Rattle.placing.specs.theorems.Decide.{
+use Rattle.placing.specs.rules.Tests.{
   le-decides,
   eq-decides,
   both-decide,

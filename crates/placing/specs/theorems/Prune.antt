@@ -17,7 +17,7 @@ use Rattle.placing.specs.rules.Meet.{Meet, meet-symmetric}
 use Rattle.placing.specs.rules.Crowd.{Crowded}
 use Rattle.placing.specs.rules.Choice.{cornerAt, Corners, Good}
 use Rattle.placing.specs.rules.Decides.{Decides, decides-same}
-use Rattle.placing.specs.theorems.Decide.{
+use Rattle.placing.specs.rules.Tests.{
   both-decide,
   not-decides,
   allBelow,

@@ -17,7 +17,7 @@ use Rattle.placing.specs.rules.Meet.{Overlap, Meet, meet-larger}
 use Rattle.placing.specs.rules.Crowd.{Ahead, DoubledCovers}
 use Rattle.placing.specs.rules.Choice.{cornerAt, Corners, Good, MeetingPair}
 use Rattle.placing.specs.rules.Decides.{Decides, decides-same, decided}
-use Rattle.placing.specs.theorems.Decide.{someBelow, some-decides, pairTest, pair-decides}
+use Rattle.placing.specs.rules.Tests.{someBelow, some-decides, pairTest, pair-decides}
 use Rattle.placing.specs.rules.Answer.{numbered, IsAnswer, is-number}
 
 -- Whether two labels meet is decided, by trying all pairs.

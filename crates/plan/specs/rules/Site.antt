@@ -11,7 +11,7 @@ use lib.ListN.{length, getD, List·getD-map, length-map, length-append}
 use lib.Seq.{getD-append-seam}
 use Rattle.placing.specs.declared.units.Place.{Place}
 use Rattle.placing.specs.rules.Decides.{Decides}
-use Rattle.placing.specs.theorems.Decide.{same-decides}
+use Rattle.placing.specs.rules.Tests.{same-decides}
 use Rattle.placing.specs.rules.Units.{mostSites, greatestCoordinate, nowhere, xOf, yOf, siteAt, Same, samePlace, Distinct, InRange}
 use Rattle.plan.specs.rules.Name.{isName, sameBytes, same-bytes-same, same-bytes-refl}
 

@@ -14,7 +14,7 @@ use lib.Dec.{T, eqb, lit≤}
 use lib.ListN.{length}
 use Rattle.placing.specs.declared.units.Place.{Place}
 use Rattle.placing.specs.rules.Units.{mostSites}
-use Rattle.placing.specs.theorems.Decide.{eq-decides, both-decide, not-decides}
+use Rattle.placing.specs.rules.Tests.{eq-decides, both-decide, not-decides}
 use Rattle.placing.specs.rules.Answer.{Answer, answerOf, numbered, unbounded}
 use Rattle.placing.specs.rules.Choice.{MeetingPair}
 use Rattle.placing.specs.theorems.Twice.{meeting-decides, meeting-larger}

@@ -1,7 +1,7 @@
 -- A loop that copies a list from the front over another, one store a turn: after n turns it is `take n s ++ drop n d`.
---     copied-none     with none stored it is d
 --     copied-more     a store of s's element at n, below both lengths, makes it the same at n + 1
 --     copied-at       below n it has s's elements
+-- What the code copies over is an array of zeros, one for each site (`zeros`).
 -- Assumes nothing.
 use mathlib.Core.Path.{_≡_, refl, sym, ap, _∙_}
 use mathlib.Core.List.{List, [], _∷_, _++_}
@@ -11,6 +11,7 @@ use native.Mathlib.Numerals.{add-one}
 use native.Mathlib.Omega.{arith}
 use lib.ListN.{length, getD, set, take, drop, replicate, List·getD-append}
 use lib.Seq.{getD-take, length-take-le}
+use Rattle.placing.specs.rules.Units.{mostSites}
 
 -- The first n elements of s, then d from n on.
 abbrev pub copied : ℕ → List ℕ → List ℕ → List ℕ
@@ -34,14 +35,14 @@ drop-replicate zero k v = ap (λ (m : ℕ). replicate m v) (sym (sub-zero k))
 drop-replicate (suc n) zero v = ap (λ (m : ℕ). replicate m v) (sym (zero-sub (suc n)))
 drop-replicate (suc n) (suc k) v = drop-replicate n k v ∙ ap (λ (m : ℕ). replicate m v) (sym (suc-sub-suc k n))
 
--- An array of 240 zeros.
+-- An array of zeros, one for each site.
 unfoldable pub zeros : List ℕ
-zeros = replicate 240 0
+zeros = replicate mostSites 0
 
-pub length-zeros : length zeros ≡ 240
+pub length-zeros : length zeros ≡ mostSites
 unfolding zeros
 length-zeros = refl
 
-pub drop-zeros : (n : ℕ) → drop n zeros ≡ replicate (240 - n) 0
+pub drop-zeros : (n : ℕ) → drop n zeros ≡ replicate (mostSites - n) 0
 unfolding zeros
-drop-zeros n = drop-replicate n 240 0
+drop-zeros n = drop-replicate n mostSites 0

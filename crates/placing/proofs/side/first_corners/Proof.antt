@@ -6,12 +6,13 @@ use Prim.Native.Nat.{ℕ, _≤_, _-_}
 use native.Mathlib.Omega.{arith}
 use lib.ListN.{length, getD, set, length-set}
 use borrow.Author.Needs.{needs}
+use Rattle.placing.specs.rules.Units.{mostSites}
 use Rattle.placing.proofs.Copied.{copied, copied-more, zeros, length-zeros, drop-zeros}
 use Rattle.placing.proofs.side.first_corners.Statement.{statement}
 use Rattle.placing.proofs.side.first_corners.Tie as tie
 
 abbrev Inv-loop : tie.InvT-loop
-Inv-loop n corners first₀ i₀ first i = (i ≤ n) × (first ≡ copied i corners zeros) × (length first ≡ 240)
+Inv-loop n corners first₀ i₀ first i = (i ≤ n) × (first ≡ copied i corners zeros) × (length first ≡ mostSites)
 
 abbrev μ-loop : tie.MeasureT-loop
 μ-loop n corners first₀ i₀ first i = n - i
@@ -37,7 +38,7 @@ loop-again c =
     let at-loop = c .before in
     let i = at-loop .loop .i in
     let corners = at-loop .before .args .t1 in
-    let size : length corners ≡ 240 = search needs in (
+    let size : length corners ≡ mostSites = search needs in (
       omega arith,
       ap (λ (l : List ℕ). set l i (getD corners i 0)) (at-loop .loop .inv .1)
           ∙ copied-more i corners zeros (omega arith) (omega (arith, length-zeros)),

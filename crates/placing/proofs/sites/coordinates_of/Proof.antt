@@ -7,7 +7,7 @@ use native.Mathlib.Omega.{arith}
 use lib.ListN.{length, getD, set, take, length-set, length-map, List·getD-map}
 use lib.Seq.{ext-getD, getD-take, length-take-le}
 use borrow.Author.Needs.{needs}
-use Rattle.placing.specs.rules.Units.{xOf, yOf, siteAt, nowhere}
+use Rattle.placing.specs.rules.Units.{mostSites, xOf, yOf, siteAt, nowhere}
 use Rattle.placing.specs.declared.units.Place.{Place}
 use Rattle.placing.specs.code.Sites.{sitesOf, length-sites, site-at}
 use Rattle.placing.proofs.Copied.{copied, copied-more, copied-at, zeros, length-zeros}
@@ -20,7 +20,7 @@ axis-at f none sites i = ap (getD (map f sites) i) (sym none) ∙ List·getD-map
 
 -- one site more, along either axis
 axis-more : (f : Place → ℕ) → f nowhere ≡ 0 → (i : ℕ) (sites : List Place) (row : List ℕ) → i < length sites
-    → row ≡ copied i (map f sites) zeros → i < 240 → set row i (f (siteAt sites i)) ≡ copied (i + 1) (map f sites) zeros
+    → row ≡ copied i (map f sites) zeros → i < mostSites → set row i (f (siteAt sites i)) ≡ copied (i + 1) (map f sites) zeros
 axis-more f none i sites row listed before few =
     ap₂ (λ (l : List ℕ) (v : ℕ). set l i v) before (sym (axis-at f none sites i))
     ∙ copied-more i (map f sites) zeros (omega (arith, length-map sites f)) (omega (arith, length-zeros))
@@ -45,7 +45,7 @@ holds-sites n sites xs ys few at-x at-y =
 
 abbrev Inv-loop : tie.InvT-loop
 Inv-loop n sites xs₀ ys₀ i₀ xs ys i =
-    (i ≤ n) × (xs ≡ copied i (map xOf sites) zeros) × (ys ≡ copied i (map yOf sites) zeros) × (length xs ≡ 240) × (length ys ≡ 240)
+    (i ≤ n) × (xs ≡ copied i (map xOf sites) zeros) × (ys ≡ copied i (map yOf sites) zeros) × (length xs ≡ mostSites) × (length ys ≡ mostSites)
 
 abbrev μ-loop : tie.MeasureT-loop
 μ-loop n sites xs₀ ys₀ i₀ xs ys i = n - i
@@ -84,7 +84,7 @@ loop-again c =
     let i = at-loop .loop .i in
     let sites = at-loop .before .args .t1 in
     let before = at-loop .loop .inv in
-    let size : length sites ≡ 240 = search needs in (
+    let size : length sites ≡ mostSites = search needs in (
       omega arith,
       axis-more xOf refl i sites (at-loop .loop .xs) (omega arith) (before .1) (omega arith),
       axis-more yOf refl i sites (at-loop .loop .ys) (omega arith) (before .2) (omega arith),
@@ -97,7 +97,7 @@ returns c =
     let at-loop = c .before in
     let n = at-loop .before .args .n in
     let end : at-loop .loop .i ≡ n = omega arith in
-    let size : length (at-loop .before .args .t1) ≡ 240 = search needs in
+    let size : length (at-loop .before .args .t1) ≡ mostSites = search needs in
     record {
       x-size = at-loop .loop .inv .3;
       y-size = at-loop .loop .inv .4;

@@ -11,7 +11,7 @@ ghost use Prim.Native.Nat.{_<_, max};
 ghost use Rattle.placing.specs.rules.Units.{OnPlan, dist, mostSites};
 ghost use Rattle.placing.specs.rules.Corner.{Corner};
 ghost use Rattle.placing.specs.code.Sites.{Held, sitesOf};
-ghost use Rattle.placing.specs.code.Crowding.{apart, Lowered, Nearer, Passed, SiteReaches, CrowdingIs, judgedFree, written};
+ghost use Rattle.placing.specs.code.Crowding.{distanceBetween, Lowered, Nearer, Passed, SiteReaches, CrowdingIs, judgedFree, withSite};
 
 // The reaches of the four corners of a site: a doubled label covers another site where its side is above the corner's reach.
 pub(crate) struct Reaches {
@@ -45,10 +45,10 @@ fn larger(a: Units, b: Units) -> Units
     if a.0 <= b.0 { b } else { a }
 }
 
-// How far apart two places are: the larger of their distances along the axes.
-fn apart(s: Place, t: Place) -> HalfUnits
+// The distance between two places: the larger of their distances along the axes.
+fn distance_between(s: Place, t: Place) -> HalfUnits
     requires { ⌜ OnPlan s × OnPlan t ⌝ }
-    ensures { λ r. ⌜ r .0 ≡ apart s t ⌝ }
+    ensures { λ r. ⌜ r .0 ≡ distanceBetween s t ⌝ }
 {
     larger(distance(s.x, t.x), distance(s.y, t.y)).in_half_units()
 }
@@ -56,7 +56,7 @@ fn apart(s: Place, t: Place) -> HalfUnits
 // The reach of corner `c` of `s`, `reach` so far, with one other site more: `t`, which lies `away` from `s`. The distance is
 // asked first: most sites lie too far away to count.
 fn lowered(reach: HalfUnits, away: HalfUnits, s: Place, c: u8, t: Place) -> HalfUnits
-    requires { ⌜ OnPlan s × OnPlan t × Corner c × (away .0 ≡ apart s t) ⌝ }
+    requires { ⌜ OnPlan s × OnPlan t × Corner c × (away .0 ≡ distanceBetween s t) ⌝ }
     ensures { λ r. ⌜ Lowered s c t (reach .0) (r .0) ⌝ }
 {
     if reach.0 <= away.0 {
@@ -74,7 +74,7 @@ fn nearer(reaches: Reaches, s: Place, t: Place) -> Reaches
     requires { ⌜ OnPlan s × OnPlan t ⌝ }
     ensures { λ r. ⌜ Nearer s t reaches r ⌝ }
 {
-    let away = apart(s, t);
+    let away = distance_between(s, t);
     Reaches {
         first: lowered(reaches.first, away, s, 1, t),
         second: lowered(reaches.second, away, s, 2, t),
@@ -117,7 +117,7 @@ fn reaches_of(xs: &[u32; Limits::SITES], ys: &[u32; Limits::SITES], n: usize, i:
 // The reaches so far, with those of site `i`.
 fn with_site(crowding: Crowding, i: usize, reaches: Reaches) -> Crowding
     requires { ⌜ i < mostSites ⌝ }
-    ensures { λ r. ⌜ r ≡ written crowding i reaches ⌝ }
+    ensures { λ r. ⌜ r ≡ withSite crowding i reaches ⌝ }
 {
     let mut first = crowding.first;
     let mut second = crowding.second;

@@ -40,7 +40,7 @@ first-at-one {ps} distinct =
 -- The lower side has a good choice, and these are the first one's corners; the upper side has none.
 pub record BetweenIs (ps : List Place) (n : ℕ) (between : Between) : Type 0 where
   pub least : 1 ≤ between .low .0
-  pub apart : between .low .0 < between .high .0
+  pub below : between .low .0 < between .high .0
   pub most : between .high .0 ≤ freeSide
   pub first : First (between .low .0) ps (take n (between .corners))
   pub no-good : (es : List ℕ) → Good (between .high .0) ps es → ⊥
@@ -69,7 +69,7 @@ pub between-starts : {ps : List Place} {n : ℕ} → Distinct ps → length ps �
 between-starts {ps} {n} distinct count few not-free =
     record {
       least = omega arith;
-      apart = omega arith;
+      below = omega arith;
       most = omega arith;
       first = rw (take-replicate n mostSites few, ← count) (first-at-one distinct);
       no-good = firstGood-none not-free;
@@ -85,7 +85,7 @@ module _ {ps : List Place} {n : ℕ} {between : Between} (is-between : BetweenIs
       record {
         between-is = record {
           least = omega (arith, is-between .least);
-          apart = below;
+          below = below;
           most = is-between .most;
           first = firstGood-some (sym is ∙ ap (λ (b : Bool). whereYes b (take n (chosen .corners))) ok);
           no-good = is-between .no-good;
@@ -100,7 +100,7 @@ module _ {ps : List Place} {n : ℕ} {between : Between} (is-between : BetweenIs
       record {
         between-is = record {
           least = is-between .least;
-          apart = above;
+          below = above;
           most = omega (arith, is-between .most);
           first = is-between .first;
           no-good = firstGood-none (sym is ∙ ap (λ (b : Bool). whereYes b (take n (chosen .corners))) failed);
@@ -121,10 +121,10 @@ pub between-ends : {ps : List Place} {n : ℕ} {between : Between} → Distinct 
     (placedAs (answerOf ps))
 between-ends {ps} {n} {between} distinct count is-between end =
     placed-corners n (between .corners) count (is-between .first)
-    ∙ ap placedAs (sym (answer-found distinct (is-between .least) (omega (arith, is-between .most, is-between .apart)) (is-between .first) next))
+    ∙ ap placedAs (sym (answer-found distinct (is-between .least) (omega (arith, is-between .most, is-between .below)) (is-between .first) next))
   where
     next : (es : List ℕ) → Good (suc (between .low .0)) ps es → ⊥
-    next = let last : between .high .0 ≡ suc (between .low .0) = omega (arith, is-between .apart) in rw last at (is-between .no-good)
+    next = let last : between .high .0 ≡ suc (between .low .0) = omega (arith, is-between .below) in rw last at (is-between .no-good)
 
 -- Where 20,001 has a good choice, the answer is free.
 pub free-placed : {ps : List Place} (n : ℕ) (chosen : Chosen) → Distinct ps → length ps ≡ n

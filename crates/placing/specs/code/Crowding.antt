@@ -61,9 +61,9 @@ pub record SiteReaches (ps : List Place) (i : ℕ) (reaches : Reaches) : Type 0 
 pub record CrowdingIs (ps : List Place) (n : ℕ) (crowding : Crowding) : Type 0 where
   pub at-site : (i : ℕ) → i < n → SiteReaches ps i (reachesAt crowding i)
 
--- How far apart two places are, in half units: the larger of their distances along the axes.
-abbrev pub apart : Place → Place → ℕ
-apart s t = halves (max (dist (xOf s) (xOf t)) (dist (yOf s) (yOf t)))
+-- The distance between two places, in half units: the larger of their distances along the axes.
+abbrev pub distanceBetween : Place → Place → ℕ
+distanceBetween s t = halves (max (dist (xOf s) (xOf t)) (dist (yOf s) (yOf t)))
 
 -- With t as one other place more, the reach of corner c of s falls from `before` to `after`: to where the doubled label covers t.
 pub record Lowered (s : Place) (c : ℕ) (t : Place) (before after : ℕ) : Type 0 where
@@ -100,14 +100,14 @@ ahead-near h Up a b ahead = omega arith
 ahead-near h Down a b ahead = omega arith
 
 -- A place that a doubled label covers is nearer than the doubled side ..
-covers-near : {h : ℕ} {s t : Place} {c : ℕ} → DoubledCovers h s c t → apart s t < doubled h
+covers-near : {h : ℕ} {s t : Place} {c : ℕ} → DoubledCovers h s c t → distanceBetween s t < doubled h
 covers-near {h} {s} {t} {c} covers =
     let near-x = ahead-near h (alongX c) (xOf s) (xOf t) (covers .along-x) in
     let near-y = ahead-near h (alongY c) (yOf s) (yOf t) (covers .along-y) in
     omega arith
 
 -- .. and one that lies in the label's two directions is covered at every side whose double it is nearer than.
-near-covers : {h : ℕ} {s t : Place} {c : ℕ} → DoubledCovers freeSide s c t → apart s t < doubled h → DoubledCovers h s c t
+near-covers : {h : ℕ} {s t : Place} {c : ℕ} → DoubledCovers freeSide s c t → distanceBetween s t < doubled h → DoubledCovers h s c t
 near-covers {h} {s} {t} {c} there near =
     record {
       along-x = near-ahead freeSide h (alongX c) (xOf s) (xOf t) (there .along-x) (omega arith);
@@ -115,7 +115,7 @@ near-covers {h} {s} {t} {c} there near =
     }
 
 -- A place as far away as the reach, or farther, leaves it as it is ..
-pub lowered-far : {s t : Place} {c reach : ℕ} → reach ≤ apart s t → Lowered s c t reach reach
+pub lowered-far : {s t : Place} {c reach : ℕ} → reach ≤ distanceBetween s t → Lowered s c t reach reach
 lowered-far far =
     record {
       falls = omega arith;
@@ -133,7 +133,8 @@ lowered-elsewhere elsewhere =
     }
 
 -- .. and to any other the reach falls.
-pub lowered-there : {s t : Place} {c reach : ℕ} → apart s t ≤ reach → DoubledCovers freeSide s c t → Lowered s c t reach (apart s t)
+pub lowered-there : {s t : Place} {c reach : ℕ} → distanceBetween s t ≤ reach → DoubledCovers freeSide s c t
+    → Lowered s c t reach (distanceBetween s t)
 lowered-there near there =
     record {
       falls = near;
@@ -223,8 +224,8 @@ pub site-all : {ps : List Place} {i k : ℕ} {reaches : Reaches} → length ps �
 site-all all among = record { at-corner = λ c corner. among-all all (among .at-corner c corner) }
 
 -- The arrays with the reaches of site k written.
-abbrev pub written : Crowding → ℕ → Reaches → Crowding
-written crowding k reaches =
+abbrev pub withSite : Crowding → ℕ → Reaches → Crowding
+withSite crowding k reaches =
     record {
       first = set (crowding .first) k (reaches .first);
       second = set (crowding .second) k (reaches .second);
@@ -254,7 +255,7 @@ crowding-none one two three four =
 
 -- .. and of one site more.
 pub crowding-more : {ps : List Place} {k : ℕ} {crowding : Crowding} {reaches : Reaches} → k < mostSites → CrowdingBelow ps k crowding
-    → SiteReaches ps k reaches → CrowdingBelow ps (k + 1) (written crowding k reaches)
+    → SiteReaches ps k reaches → CrowdingBelow ps (k + 1) (withSite crowding k reaches)
 crowding-more {ps} {k} {crowding} {reaches} inside so-far site =
     record {
       first-size = simp length-set (so-far .first-size);
@@ -264,7 +265,7 @@ crowding-more {ps} {k} {crowding} {reaches} inside so-far site =
       reaches = record { at-site = λ i listed. go i listed (ℕ-discrete i k) };
     }
   where
-    go : (i : ℕ) → i < k + 1 → Dec (i ≡ k) → SiteReaches ps i (reachesAt (written crowding k reaches) i)
+    go : (i : ℕ) → i < k + 1 → Dec (i ≡ k) → SiteReaches ps i (reachesAt (withSite crowding k reaches) i)
     go i listed (yes last) =
         rw (
           last,

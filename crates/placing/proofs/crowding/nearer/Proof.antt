@@ -6,8 +6,8 @@ use Rattle.placing.specs.declared.crowding.Reaches.{Reaches}
 use Rattle.placing.proofs.crowding.nearer.Statement.{statement}
 use Rattle.placing.proofs.crowding.nearer.Tie as tie
 
-apart-requires : tie.Need-apart-requires
-apart-requires c κs = search needs
+distance-between-requires : tie.Need-distance-between-requires
+distance-between-requires c κs = search needs
 
 lowered-requires : tie.Need-lowered-requires
 lowered-requires c κs = search needs
@@ -42,7 +42,7 @@ pub nearer-spec : {M : Type 1} → statement M
 nearer-spec =
     tie.close
     (tie.spec
-    apart-requires
+    distance-between-requires
     lowered-requires
     lowered-requires-2
     lowered-requires-3

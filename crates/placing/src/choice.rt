@@ -2,8 +2,6 @@
 // fail. What it yields is the first good choice.
 use crate::crowding::Crowding;
 use crate::fresh::fresh_state;
-use crate::trial::Attempt;
-use crate::trial::State;
 use crate::trial::try_corner;
 use crate::units::HalfUnits;
 use crate::units::Limits;
@@ -28,21 +26,22 @@ fn try_open(
     ys: &[u32; Limits::SITES],
     n: usize,
     side: HalfUnits,
-    state: State,
+    ways: &mut [u8; Limits::WAYS],
+    decided: &mut [u8; Limits::SITES],
     marks: &mut [u8],
     i: usize,
     e: usize,
-) -> Attempt
-    requires { ⌜ MayDecide n (now xs) (now ys) side (state .ways) (state .decided) (now marks) i × (e < 4) ⌝ }
+) -> bool
+    requires { ⌜ MayDecide n (now xs) (now ys) side (now ways) (now decided) (now marks) i × (e < 4) ⌝ }
     ensures tried { λ r. ⌜ Tried (labels (side .0) n (now (xs .entry)) (now (ys .entry)))
-        (state .ways) (state .decided) i (e + 1) (r .ok) (r .state .ways) (r .state .decided) ⌝ }
+        (now (ways .entry)) (now (decided .entry)) i (e + 1) r (now (ways .exit)) (now (decided .exit)) ⌝ }
     ensures kept { λ r. ⌜ Kept n (now (marks .entry)) (now (marks .exit)) ⌝ }
 {
     let at = 4 * i + e;
-    if state.ways[at] == 1 {
-        return try_corner(xs, ys, n, side, state, marks, i, (e + 1) as u8);
+    if ways[at] == 1 {
+        return try_corner(xs, ys, n, side, ways, decided, marks, i, (e + 1) as u8);
     }
-    Attempt { ok: false, state }
+    false
 }
 
 // Decides site `i`, where it is not decided yet, by its lowest open corner whose trial does not fail. No where all fail.
@@ -51,25 +50,25 @@ fn choose_corner(
     ys: &[u32; Limits::SITES],
     n: usize,
     side: HalfUnits,
-    state: State,
+    ways: &mut [u8; Limits::WAYS],
+    decided: &mut [u8; Limits::SITES],
     marks: &mut [u8],
     i: usize,
-) -> Attempt
-    requires { ⌜ MayWalk n (now xs) (now ys) side (state .ways) (state .decided) (now marks) i × (i < n) ⌝ }
+) -> bool
+    requires { ⌜ MayWalk n (now xs) (now ys) side (now ways) (now decided) (now marks) i × (i < n) ⌝ }
     ensures walked { λ r. ⌜ WalkedTo (labels (side .0) n (now (xs .entry)) (now (ys .entry))) (i + 1)
-        (r .ok) (r .state .ways) (r .state .decided) ⌝ }
+        r (now (ways .exit)) (now (decided .exit)) ⌝ }
     ensures kept { λ r. ⌜ Kept n (now (marks .entry)) (now (marks .exit)) ⌝ }
 {
-    if state.decided[i] != 0 {
-        return Attempt { ok: true, state };
+    if decided[i] != 0 {
+        return true;
     }
     for e in 0..4 {
-        let tried = try_open(xs, ys, n, side, state, marks, i, e);
-        if tried.ok {
-            return tried;
+        if try_open(xs, ys, n, side, ways, decided, marks, i, e) {
+            return true;
         }
     }
-    Attempt { ok: false, state }
+    false
 }
 
 // Decides all sites in list order. No where there is no good choice.
@@ -78,26 +77,21 @@ fn walk(
     ys: &[u32; Limits::SITES],
     n: usize,
     side: HalfUnits,
-    start: State,
+    ways: &mut [u8; Limits::WAYS],
+    decided: &mut [u8; Limits::SITES],
     marks: &mut [u8],
-) -> Attempt
-    requires { ⌜ MayWalk n (now xs) (now ys) side (start .ways) (start .decided) (now marks) 0 ⌝ }
+) -> bool
+    requires { ⌜ MayWalk n (now xs) (now ys) side (now ways) (now decided) (now marks) 0 ⌝ }
     ensures walked { λ r. ⌜ WalkedTo (labels (side .0) n (now (xs .entry)) (now (ys .entry))) n
-        (r .ok) (r .state .ways) (r .state .decided) ⌝ }
+        r (now (ways .exit)) (now (decided .exit)) ⌝ }
     ensures kept { λ r. ⌜ Kept n (now (marks .entry)) (now (marks .exit)) ⌝ }
 {
-    let mut walked = Attempt {
-        ok: true,
-        state: start,
-    };
     for i in 0..n {
-        let state = walked.state;
-        walked = choose_corner(xs, ys, n, side, state, marks, i);
-        if !walked.ok {
-            return walked;
+        if !choose_corner(xs, ys, n, side, ways, decided, marks, i) {
+            return false;
         }
     }
-    walked
+    true
 }
 
 // The first good choice at a side, or none.
@@ -113,11 +107,12 @@ pub(crate) fn choose(
     ensures first { λ r. ⌜ choiceIn n r ≡ firstGood (side .0) (sitesOf n (now (xs .entry)) (now (ys .entry))) ⌝ }
     ensures kept { λ r. ⌜ Kept n (now (marks .entry)) (now (marks .exit)) ⌝ }
 {
-    let walked = walk(xs, ys, n, side, fresh_state(crowding, n, side), marks);
-    let state = walked.state;
-    let corners = state.decided;
+    let fresh = fresh_state(crowding, n, side);
+    let mut ways = fresh.ways;
+    let mut decided = fresh.decided;
+    let ok = walk(xs, ys, n, side, &mut ways, &mut decided, marks);
     Chosen {
-        ok: walked.ok,
-        corners,
+        ok,
+        corners: decided,
     }
 }

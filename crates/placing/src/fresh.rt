@@ -1,6 +1,5 @@
 // The state from which labels of a side are placed: every corner is open that is not crowded at the side.
 use crate::crowding::Crowding;
-use crate::trial::State;
 use crate::units::HalfUnits;
 use crate::units::Limits;
 ghost use mathlib.Core.Path.{_≡_};
@@ -8,6 +7,12 @@ ghost use Prim.Native.Nat.{_*_, _≤_, _<_};
 ghost use lib.ListN.{length};
 ghost use Rattle.placing.specs.rules.Units.{mostSites, Judged};
 ghost use Rattle.placing.specs.code.Fresh.{OpenByte, OpenedRow, FreshState};
+
+// Which corners are open and which is decided, for every site.
+pub(crate) struct State {
+    pub ways: [u8; Limits::WAYS],
+    pub decided: [u8; Limits::SITES],
+}
 
 // The byte of a corner with this reach: 1, for open, where the doubled side is within it.
 fn is_open(reach: HalfUnits, side: HalfUnits) -> u8

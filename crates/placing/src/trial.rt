@@ -1,7 +1,7 @@
 // A trial decides a corner of one site and carries on: a decided site closes the corners of others that its label meets, and
 // a site left with one corner is decided too. Four bytes a site say which corners are open, one byte which is decided; a byte
-// of the lent table marks a site whose decision has been carried out. Inside a trial the arrays are lent, since handing them
-// on by value costs more than all the tests.
+// of the lent table marks a site whose decision has been carried out. The arrays are lent, since handing them on by value costs
+// more than all the tests; a trial keeps a copy of them as they came, to put back where it fails.
 use crate::geometry::meet;
 use crate::sites::place_of;
 use crate::units::HalfUnits;
@@ -23,18 +23,6 @@ pub(crate) enum Left {
     Nothing,
     One(u8),
     More,
-}
-
-// Which corners are open and which is decided, for every site.
-pub(crate) struct State {
-    pub ways: [u8; Limits::WAYS],
-    pub decided: [u8; Limits::SITES],
-}
-
-// A state, and whether it was reached.
-pub(crate) struct Attempt {
-    pub ok: bool,
-    pub state: State,
 }
 
 // An open corner, alone or with others.
@@ -256,27 +244,31 @@ fn take_corner(ways: &mut [u8; Limits::WAYS], decided: &mut [u8; Limits::SITES],
     decided[i] = c;
 }
 
-// Tries corner `c` of site `i` on a copy of the state.
+// Tries corner `c` of site `i`. Where the trial fails, the arrays are put back as they came.
 pub(crate) fn try_corner(
     xs: &[u32; Limits::SITES],
     ys: &[u32; Limits::SITES],
     n: usize,
     side: HalfUnits,
-    state: State,
+    ways: &mut [u8; Limits::WAYS],
+    decided: &mut [u8; Limits::SITES],
     marks: &mut [u8],
     i: usize,
     c: u8,
-) -> Attempt
-    requires { ⌜ MayTry n (now xs) (now ys) side (state .ways) (state .decided) (now marks) i c ⌝ }
+) -> bool
+    requires { ⌜ MayTry n (now xs) (now ys) side (now ways) (now decided) (now marks) i c ⌝ }
     ensures tried { λ r. ⌜ Tried (labels (side .0) n (now (xs .entry)) (now (ys .entry)))
-        (state .ways) (state .decided) i c (r .ok) (r .state .ways) (r .state .decided) ⌝ }
+        (now (ways .entry)) (now (decided .entry)) i c r (now (ways .exit)) (now (decided .exit)) ⌝ }
     ensures kept { λ r. ⌜ Kept n (now (marks .entry)) (now (marks .exit)) ⌝ }
 {
-    let mut ways = state.ways;
-    let mut decided = state.decided;
-    mark(&decided, marks, n);
-    take_corner(&mut ways, &mut decided, i, c);
-    let ok = carry_on(xs, ys, n, side, &mut ways, &mut decided, marks);
-    let reached = State { ways, decided };
-    Attempt { ok, state: reached }
+    let ways_before = *ways;
+    let decided_before = *decided;
+    mark(decided, marks, n);
+    take_corner(ways, decided, i, c);
+    if carry_on(xs, ys, n, side, ways, decided, marks) {
+        return true;
+    }
+    *ways = ways_before;
+    *decided = decided_before;
+    false
 }

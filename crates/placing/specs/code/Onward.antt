@@ -1,7 +1,7 @@
 -- A trial on the bytes of a state (specs/code/Ways): it takes a corner, then carries out one decision after another, with a table of
 -- marks, until a site is left with no corner or no decision waits. The laws of specs/search/Trial do the work.
 -- Assumes nothing.
-use mathlib.Core.Path.{_≡_, sym, ap, _∙_}
+use mathlib.Core.Path.{_≡_, refl, sym, ap, _∙_}
 use mathlib.Core.Bool.{Bool, true, false, true≢false}
 use mathlib.Core.List.{List}
 use mathlib.Core.Logic.{_≢_}
@@ -133,19 +133,35 @@ module _ {P : Problem} {ways decided ways′ decided′ marks : List ℕ} {i c :
   pub taken-underway : Underway P ways′ decided′ (Done marks)
   taken-underway = trial-begins closed listed undecided is-open took (λ j h done u. marked .unmarked j h u done)
 
-  -- Once it has carried on, the corner has been tried.
-  pub taken-tried : {ok : Bool} {ways″ decided″ : List ℕ} → CarriedOn P ways′ decided′ ok ways″ decided″
-      → Tried P ways decided i c ok ways″ decided″
-  taken-tried on =
-      record {
-        sizes = on .sizes;
-        closed = on .closed;
-        onward = λ e. on .onward e ways decided i c listed some start;
-        refused = λ e. on .refused e ways decided i c listed some start;
-      }
-    where
-      some : c ≢ 0
-      some = let corner = P .corner i c (closed .candidate i c listed is-open) in omega arith
+  -- The open corner is a corner ..
+  some : c ≢ 0
+  some = let corner = P .corner i c (closed .candidate i c listed is-open) in omega arith
 
-      start : Onward P ways decided i c ways′ decided′
-      start = trial-onward-start closed listed undecided is-open took
+  -- .. and what the trial has taken lies onward from its start.
+  start : Onward P ways decided i c ways′ decided′
+  start = trial-onward-start closed listed undecided is-open took
+
+  module _ {ok : Bool} {ways″ decided″ : List ℕ} (on : CarriedOn P ways′ decided′ ok ways″ decided″) where
+    -- Once it has carried on, the corner has been tried ..
+    pub trial-passes : ok ≡ true → Tried P ways decided i c true ways″ decided″
+    trial-passes passed =
+        record {
+          sizes = on .sizes;
+          closed = λ e. on .closed passed;
+          onward = λ e. on .onward passed ways decided i c listed some start;
+          refused = λ e. absurd (true≢false e);
+          ways-back = λ e. absurd (true≢false e);
+          decided-back = λ e. absurd (true≢false e);
+        }
+
+    -- .. and where that failed, the state it started from is put back.
+    pub trial-fails : ok ≡ false → Sizes ways decided → Tried P ways decided i c false ways decided
+    trial-fails failed sizes =
+        record {
+          sizes = sizes;
+          closed = λ e. absurd (true≢false (sym e));
+          onward = λ e. absurd (true≢false (sym e));
+          refused = λ e. on .refused failed ways decided i c listed some start;
+          ways-back = λ e. refl;
+          decided-back = λ e. refl;
+        }

@@ -54,19 +54,22 @@ tried-shut {P} {ways} {decided} {i} e sizes listed h shut =
       closed = λ o. absurd (true≢false (sym o));
       onward = λ o. absurd (true≢false (sym o));
       refused = λ o. refused-closed listed (λ is-open. shut (sym (row-next ways i e h) ∙ is-open));
+      ways-back = λ o. refl;
+      decided-back = λ o. refl;
     }
+
+-- A walk that has come to site i.
+pub walked-to : {P : Problem} {i : ℕ} {ways decided : List ℕ} → Sizes ways decided → Walked P i ways decided
+    → WalkedTo P i true ways decided
+walked-to sizes walked = record { sizes = sizes; walked = λ o. walked; no-solution = λ o. absurd (true≢false o) }
 
 -- The first corner whose trial does not fail is taken.
 pub takes-corner : {P : Problem} {ways decided ways′ decided′ : List ℕ} {i : ℕ} (e : ℕ) {ok : Bool} → Walked P i ways decided
     → i < P .n → cornerAt decided i ≡ 0 → RefusedUpTo P ways i e → Tried P ways decided i (e + 1) ok ways′ decided′ → ok ≡ true
-    → WalkedTo P (i + 1) ok ways′ decided′
+    → WalkedTo P (i + 1) true ways′ decided′
 takes-corner e walked listed undecided before tried yes-ok =
-    record {
-      sizes = tried .sizes;
-      walked = λ o.
-          walk-takes walked listed undecided (λ c h. before .refused c (omega arith)) (tried .closed o) (tried .onward o) (omega arith);
-      no-solution = λ o. let both : true ≡ false = sym yes-ok ∙ o in absurd (let z : _≡_ {A = ℕ} 0 1 = cc in omega arith);
-    }
+    walked-to (tried .sizes)
+    (walk-takes walked listed undecided (λ c h. before .refused c (omega arith)) (tried .closed yes-ok) (tried .onward yes-ok) (omega arith))
 
 -- Where every corner is refused there is no solution.
 pub takes-none : {P : Problem} {ways decided : List ℕ} {i e : ℕ} → Sizes ways decided → Walked P i ways decided → i < P .n
@@ -80,15 +83,10 @@ takes-none sizes walked listed all before =
 
 -- A walk that found no solution found none for any site.
 pub walk-over : {P : Problem} {i : ℕ} {ok : Bool} {ways decided : List ℕ} (n : ℕ) → ok ≡ false → WalkedTo P i ok ways decided
-    → WalkedTo P n ok ways decided
+    → WalkedTo P n false ways decided
 walk-over n failed walked =
     record {
       sizes = walked .sizes;
-      walked = λ o. let z : _≡_ {A = ℕ} 0 1 = cc in absurd (omega arith);
-      no-solution = walked .no-solution;
+      walked = λ o. absurd (true≢false (sym o));
+      no-solution = λ o. walked .no-solution failed;
     }
-
--- A walk that has come to site i.
-pub walked-to : {P : Problem} {i : ℕ} {ways decided : List ℕ} → Sizes ways decided → Walked P i ways decided
-    → WalkedTo P i true ways decided
-walked-to sizes walked = record { sizes = sizes; walked = λ o. walked; no-solution = λ o. absurd (true≢false o) }

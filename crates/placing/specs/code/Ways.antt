@@ -157,12 +157,14 @@ pub record CarriedOn (P : Problem) (ways decided : List ℕ) (ok : Bool) (ways�
   pub refused : ok ≡ false → (w d : List ℕ) (i c : ℕ) → i < P .n → c ≢ 0
       → Onward P w d i c ways decided → Refused P w i c
 
--- Corner c of site i was tried.
+-- Corner c of site i was tried. Where that failed, the state is as it was.
 pub record Tried (P : Problem) (ways decided : List ℕ) (i c : ℕ) (ok : Bool) (ways′ decided′ : List ℕ) : Type 0 where
   pub sizes : Sizes ways′ decided′
   pub closed : ok ≡ true → Closed P ways′ decided′
   pub onward : ok ≡ true → Onward P ways decided i c ways′ decided′
   pub refused : ok ≡ false → Refused P ways i c
+  pub ways-back : ok ≡ false → ways′ ≡ ways
+  pub decided-back : ok ≡ false → decided′ ≡ decided
 
 -- The walk went on to site i, or there is no solution.
 pub record WalkedTo (P : Problem) (i : ℕ) (ok : Bool) (ways decided : List ℕ) : Type 0 where

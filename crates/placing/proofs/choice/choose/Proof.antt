@@ -11,9 +11,8 @@ fresh-state-requires c κs = search needs
 
 walk-requires : tie.Need-walk-requires
 walk-requires c κs =
-    let at-fresh = c .before in
-    let at-start = at-fresh .before .before in
-    let may = at-start .pre in
+    let at-fresh = c .before .before .before .before .before in
+    let may = at-fresh .before .before .pre in
     record {
       held = may .held;
       sizes = at-fresh .fresh-state .ensures .sizes;
@@ -26,8 +25,8 @@ same-length c = search needs
 
 returns : tie.Need-returns
 returns c =
-    let at-walk = c .before .before .before .before in
-    let at-start = at-walk .before .before .before .before in (
+    let at-walk = c .before .before in
+    let at-start = at-walk .before .before .before .before .before .before .before .before in (
       walked-choice _ _ _ _ _ _ _ (at-start .pre .held .few) (at-walk .walk .ensures .0),
       at-walk .walk .ensures .1,
     )

@@ -5,6 +5,7 @@ use native.Mathlib.Omega.{arith}
 use Prim.Native.Nat.{_≤_, _-_}
 use borrow.Author.Needs.{needs}
 use Rattle.placing.specs.search.Walk.{walk-decided-add-one}
+use Rattle.placing.specs.code.Asks.{MayDecide}
 use Rattle.placing.specs.code.Labels.{labels}
 use Rattle.placing.specs.code.Ways.{Kept}
 use Rattle.placing.specs.code.Marks.{kept-same, kept-twice}
@@ -13,11 +14,12 @@ use Rattle.placing.proofs.choice.choose_corner.Statement.{statement}
 use Rattle.placing.proofs.choice.choose_corner.Tie as tie
 
 abbrev Inv-loop : tie.InvT-loop
-Inv-loop xs ys n side marks₀ i state e₀ marks e =
-    (e ≤ 4) × Kept n marks₀ marks × RefusedUpTo (labels (side .0) n xs ys) (state .ways) i e
+Inv-loop xs ys n side ways₀ decided₀ marks₀ i e₀ ways decided marks e =
+    (e ≤ 4) × Kept n marks₀ marks × MayDecide n xs ys side ways decided marks i
+    × RefusedUpTo (labels (side .0) n xs ys) ways i e
 
 abbrev μ-loop : tie.MeasureT-loop
-μ-loop xs ys n side marks₀ i state e₀ marks e = 4 - e
+μ-loop xs ys n side ways₀ decided₀ marks₀ i e₀ ways decided marks e = 4 - e
 
 element-copy-out-if1 : tie.Need-element-copy-out-if1 Inv-loop μ-loop
 element-copy-out-if1 c = search needs
@@ -28,25 +30,16 @@ returns c =
     (walked-to (may .0 .sizes) (walk-decided-add-one (may .0 .walked) (may .1) (c .if1 .taken)), kept-same)
 
 loop-holds : tie.Need-loop-holds Inv-loop μ-loop
-loop-holds c = (search needs, kept-same, refused-none _ (c .before .before .before .pre .1))
+loop-holds c =
+    let may = c .before .before .before .pre in (
+      search needs,
+      kept-same,
+      record { walking = may .0; listed = may .1; undecided = c .if1 .left },
+      refused-none _ (may .1),
+    )
 
 try-open-requires : tie.Need-try-open-requires Inv-loop μ-loop
-try-open-requires c κs =
-    let at-loop = c .before .before in
-    let undecided = at-loop .before in
-    let may = undecided .before .before .before .pre in (
-      record {
-        walking = record {
-          held = may .0 .held;
-          sizes = may .0 .sizes;
-          room = rw (at-loop .loop .inv .1 .size) (may .0 .room);
-          walked = may .0 .walked;
-        };
-        listed = may .1;
-        undecided = undecided .if1 .left;
-      },
-      c .before .loop-test .taken,
-    )
+try-open-requires c κs = (c .before .before .before .before .loop .inv .2, c .before .before .before .loop-test .taken)
 
 same-length : tie.Need-same-length Inv-loop μ-loop
 same-length c = search needs
@@ -54,12 +47,12 @@ same-length c = search needs
 returns-2 : tie.Need-returns-2 Inv-loop μ-loop
 returns-2 c =
     let at-try = c .before .before .before in
-    let at-loop = at-try .before .before .before in
-    let undecided = at-loop .before in
-    let may = undecided .before .before .before .pre in (
-      takes-corner (at-loop .loop .e) (may .0 .walked) (may .1) (undecided .if1 .left) (at-loop .loop .inv .2)
+    let at-loop = at-try .before .before .before .before .before in
+    let so-far = at-loop .loop .inv in
+    let may = so-far .2 in (
+      takes-corner (at-loop .loop .e) (may .walking .walked) (may .listed) (may .undecided) (so-far .3)
           (at-try .try-open .ensures .0) (c .if2 .taken),
-      kept-twice (at-loop .loop .inv .1) (at-try .try-open .ensures .1),
+      kept-twice (so-far .1) (at-try .try-open .ensures .1),
     )
 
 add-e : tie.Need-add-e Inv-loop μ-loop
@@ -71,11 +64,25 @@ loop-less c = search needs
 loop-again : tie.Need-loop-again Inv-loop μ-loop
 loop-again c =
     let at-try = c .before .before .before in
-    let at-loop = at-try .before .before .before in
-    let before = at-loop .loop .inv in (
+    let at-loop = at-try .before .before .before .before .before in
+    let so-far = at-loop .loop .inv in
+    let may = so-far .2 in
+    let tried = at-try .try-open .ensures .0 in
+    let kept = at-try .try-open .ensures .1 in
+    let failed = c .if2 .left in (
       omega arith,
-      kept-twice (before .1) (at-try .try-open .ensures .1),
-      refused-more (at-loop .loop .e) (before .2) (at-try .try-open .ensures .0 .refused (c .if2 .left)),
+      kept-twice (so-far .1) kept,
+      record {
+        walking = record {
+          held = may .walking .held;
+          sizes = tried .sizes;
+          room = rw (kept .size) (may .walking .room);
+          walked = rw (tried .ways-back failed, tried .decided-back failed) (may .walking .walked);
+        };
+        listed = may .listed;
+        undecided = rw (tried .decided-back failed) (may .undecided);
+      },
+      rw (tried .ways-back failed) (refused-more (at-loop .loop .e) (so-far .3) (tried .refused failed)),
     )
 
 same-length-2 : tie.Need-same-length-2 Inv-loop μ-loop
@@ -83,10 +90,10 @@ same-length-2 c = search needs
 
 returns-3 : tie.Need-returns-3 Inv-loop μ-loop
 returns-3 c =
-    let at-loop = c .before in
-    let may = at-loop .before .before .before .before .pre in (
-      takes-none (may .0 .sizes) (may .0 .walked) (may .1) (c .loop-test .left) (at-loop .loop .inv .2),
-      at-loop .loop .inv .1,
+    let so-far = c .before .loop .inv in
+    let may = so-far .2 in (
+      takes-none (may .walking .sizes) (may .walking .walked) (may .listed) (c .loop-test .left) (so-far .3),
+      so-far .1,
     )
 
 pub choose-corner-spec : {M : Type 1} → statement M

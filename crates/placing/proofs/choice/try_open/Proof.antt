@@ -25,7 +25,8 @@ cast-try-corner c = search needs
 
 try-corner-requires : tie.Need-try-corner-requires
 try-corner-requires c κs =
-    let at-start = c .before .before .before .before in
+    let at-open = c .before .before .before in
+    let at-start = at-open .before .before .before in
     let may = at-start .pre .0 in
     record {
       held = may .walking .held;
@@ -35,7 +36,7 @@ try-corner-requires c κs =
       corner = record { least = omega arith; most = omega arith };
       closed = may .walking .walked .closed;
       undecided = may .undecided;
-      is-open = row-next (at-start .args .t5 .ways) (at-start .args .i) (at-start .args .e) (at-start .pre .1) ∙ c .before .if1 .taken;
+      is-open = row-next _ (at-start .args .i) (at-start .args .e) (at-start .pre .1) ∙ at-open .if1 .taken;
     }
 
 same-length : tie.Need-same-length

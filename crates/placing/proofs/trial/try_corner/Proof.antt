@@ -1,6 +1,7 @@
--- `placing::trial::try_corner` meets its contract: taking the corner starts a trial, and carrying on ends it. Assumes nothing.
+-- `placing::trial::try_corner` meets its contract: taking the corner starts a trial, and carrying on ends it; where it fails, the
+-- arrays are put back. Assumes nothing.
 use Rattle.placing.specs.code.Marks.{kept-twice}
-use Rattle.placing.specs.code.Onward.{taken-underway, taken-tried}
+use Rattle.placing.specs.code.Onward.{taken-underway, trial-passes, trial-fails}
 use borrow.Author.Needs.{needs}
 use Rattle.placing.proofs.trial.try_corner.Statement.{statement}
 use Rattle.placing.proofs.trial.try_corner.Tie as tie
@@ -29,16 +30,39 @@ same-length c = search needs
 
 returns : tie.Need-returns
 returns c =
-    let on = c .before .before in
+    let on = c .before .before .before in
     let taken = on .before .before .before .before in
     let marking = taken .before .before .before .before .before in
     let asked = marking .before .before .before .before .before .before .pre in
     let marks = marking .mark .ensures in (
-      taken-tried (asked .closed) (asked .listed) (asked .undecided) (asked .is-open) (taken .take-corner .ensures) (marks .0)
-          (on .carry-on .ensures .0),
+      trial-passes (asked .closed) (asked .listed) (asked .undecided) (asked .is-open) (taken .take-corner .ensures) (marks .0)
+          (on .carry-on .ensures .0) (c .if1 .taken),
+      kept-twice (marks .1) (on .carry-on .ensures .1),
+    )
+
+same-length-2 : tie.Need-same-length-2
+same-length-2 c = search needs
+
+returns-2 : tie.Need-returns-2
+returns-2 c =
+    let on = c .before .before .before in
+    let taken = on .before .before .before .before in
+    let marking = taken .before .before .before .before .before in
+    let asked = marking .before .before .before .before .before .before .pre in
+    let marks = marking .mark .ensures in (
+      trial-fails (asked .closed) (asked .listed) (asked .undecided) (asked .is-open) (taken .take-corner .ensures) (marks .0)
+          (on .carry-on .ensures .0) (c .if1 .left) (asked .sizes),
       kept-twice (marks .1) (on .carry-on .ensures .1),
     )
 
 pub try-corner-spec : {M : Type 1} → statement M
 try-corner-spec =
-    tie.close (tie.spec mark-requires take-corner-requires carry-on-requires same-length returns)
+    tie.close
+    (tie.spec
+    mark-requires
+    take-corner-requires
+    carry-on-requires
+    same-length
+    returns
+    same-length-2
+    returns-2)

@@ -15,8 +15,8 @@ ghost use mathlib.Core.Path.{_≡_};
 ghost use lib.ListN.{length};
 ghost use Rattle.plan.specs.rules.List.{readList};
 ghost use Rattle.plan.specs.rules.Plan.{Valid};
-ghost use Rattle.plan.specs.rules.Calls.{writtenNumber, writtenLength, carriedAt};
-ghost use Rattle.plan.specs.rules.Output.{listPlaced, outputOf, outputWritten, outputNumber, outputAfter, refusalWritten, refusalAfter};
+ghost use Rattle.plan.specs.rules.Calls.{outcomeNumber, writtenNumber, writtenLength, carriedAt};
+ghost use Rattle.plan.specs.rules.Output.{listPlaced, listNumber, outputOf, outputWritten, outputNumber, outputAfter, refusalWritten, refusalAfter};
 ghost use Rattle.plan.specs.Demands.{SheetFor};
 
 // Writes the word refused, a tab, the number and a line feed, where there is room.
@@ -40,6 +40,7 @@ fn write_refusal(why: Refusal, buffer: &mut [u8]) -> Written
 pub fn place_list(text: &[u8]) -> Planned
     ensures answer { λ r. ⌜ r ≡ listPlaced (readList (now (text .entry))) ⌝ }
     ensures valid { λ r. ⌜ Valid (r .plan) ⌝ }
+    ensures number { λ r. ⌜ outcomeNumber (r .outcome) ≡ listNumber (readList (now (text .entry))) ⌝ }
 {
     let listed = read(text);
     let reading = listed.outcome;

@@ -23,9 +23,9 @@ use Rattle.plan.specs.rules.Enter.{Sites, accepted, refused}
 use Rattle.plan.specs.rules.List.{readList, read-listed}
 use Rattle.plan.specs.rules.Sheet.{sheetOf}
 use Rattle.plan.specs.rules.Plan.{unplaced, placed, sitesIn, sites-unplaced, sites-placed, Valid, is-placed, is-unplaced}
-use Rattle.plan.specs.rules.Calls.{writtenNumber, writtenLength, numberIf, carriedAt, fullTable}
+use Rattle.plan.specs.rules.Calls.{outcomeNumber, writtenNumber, writtenLength, numberIf, carriedAt, fullTable}
 use Rattle.plan.specs.rules.Calls.{plannedOr, started, readFrom, placedIn, written, writeWhere, filledWhere, bufferAfter}
-use Rattle.plan.specs.rules.Output.{refusalLine, listPlaced, outputFor, outputOf, outputWhere, refusalWritten, refusalAfter, output-sheet}
+use Rattle.plan.specs.rules.Output.{refusalLine, listPlaced, listNumber, outputFor, outputOf, outputWhere, refusalWritten, refusalAfter, output-sheet}
 use Rattle.plan.specs.rules.Output.{outputWritten, outputNumber, outputAfter}
 use Rattle.plan.specs.Demands.{NoRival, ReadsOff, Demanded, SheetFor}
 use Rattle.plan.specs.theorems.SheetLaws.{no-rival}
@@ -170,6 +170,16 @@ list-placed text table size listed-is is-read done-is =
     by-sites (accepted (site ∷ sites)) read is-read =
         let listed = read-listed text (site ∷ sites) read in
         unplaced-placed (site ∷ sites) table listed (omega arith) (omega (arith, mul-le-mul-right (length (site ∷ sites)) (listed .few)))
+
+-- The number of the answer.
+pub list-number : (text : List ℕ) {done : Planned} → done ≡ listPlaced (readList text)
+    → outcomeNumber (done .outcome) ≡ listNumber (readList text)
+list-number text done-is = rw done-is (by-sites (readList text))
+  where
+    by-sites : (sites : Sites) → outcomeNumber (listPlaced sites .outcome) ≡ listNumber sites
+    by-sites (accepted []) = refl
+    by-sites (accepted (site ∷ sites)) = refl
+    by-sites (refused why) = refl
 
 -- Where a list is refused the output is the line of the refusal.
 pub refused-output : (text : List ℕ) {done : Planned} {why : Refusal} → done ≡ listPlaced (readList text) → done .outcome ≡ Refused why

@@ -42,6 +42,12 @@ listPlaced (accepted []) = record { outcome = Refused NoSites; plan = started }
 listPlaced (accepted (site ∷ sites)) = record { outcome = Done; plan = placed (site ∷ sites) }
 listPlaced (refused why) = record { outcome = Refused why; plan = started }
 
+-- The number of that.
+abbrev pub listNumber : Sites → ℕ
+listNumber (accepted []) = 8
+listNumber (accepted (site ∷ sites)) = 0
+listNumber (refused why) = numberOf why
+
 -- The output for what a list was read as: its sheet, or the refusal.
 abbrev pub outputFor : Sites → List ℕ
 outputFor (accepted []) = refusalLine NoSites

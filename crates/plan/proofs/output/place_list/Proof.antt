@@ -5,7 +5,7 @@ use Prim.Native.Nat.{ℕ}
 use lib.ListN.{replicate, length-replicate}
 use denote.Ref.{now}
 use Rattle.plan.specs.rules.Calls.{fullTable}
-use Rattle.plan.specs.code.Filling.{list-refused, list-placed}
+use Rattle.plan.specs.code.Filling.{list-refused, list-placed, list-number}
 use Rattle.plan.proofs.output.place_list.Statement.{statement}
 use Rattle.plan.proofs.output.place_list.Tie as tie
 
@@ -18,7 +18,9 @@ enum-told c = search needs
 returns : tie.Need-returns
 returns c =
     let listed = c .before .before in
-    (list-refused (now (listed .before .before .args .text)) (listed .read .ensures .0) (c .enum-told .given .1), listed .read .ensures .1 .0)
+    let text = now (listed .before .before .args .text) in
+    let refused = list-refused text (listed .read .ensures .0) (c .enum-told .given .1) in
+    (refused, (listed .read .ensures .1 .0, list-number text refused))
 
 enum-told-2 : tie.Need-enum-told-2
 enum-told-2 c = search needs
@@ -32,11 +34,11 @@ place-requires c κs = search needs
 returns-2 : tie.Need-returns-2
 returns-2 c =
     let read-done = c .before .before .before .before in
-    let listed = read-done .before .before in (
-      list-placed (now (listed .before .before .args .text)) (replicate fullTable 0) (length-replicate {A = ℕ} fullTable 0)
-          (listed .read .ensures .0) (read-done .enum-told2 .given .1) (c .before .place .ensures .0),
-      c .before .place .ensures .1 .1 .0,
-    )
+    let listed = read-done .before .before in
+    let text = now (listed .before .before .args .text) in
+    let placed = list-placed text (replicate fullTable 0) (length-replicate {A = ℕ} fullTable 0) (listed .read .ensures .0)
+    (read-done .enum-told2 .given .1) (c .before .place .ensures .0) in
+    (placed, (c .before .place .ensures .1 .1 .0, list-number text placed))
 
 pub place-list-spec : {M : Type 1} → statement M
 place-list-spec =

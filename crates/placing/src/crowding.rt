@@ -13,7 +13,7 @@ ghost use Rattle.placing.specs.rules.Corner.{Corner};
 ghost use Rattle.placing.specs.code.Sites.{Held, sitesOf};
 ghost use Rattle.placing.specs.code.Crowding.{distanceBetween, Lowered, Nearer, Passed, SiteReaches, CrowdingIs, judgedFree, withSite};
 
-// The reaches of the four corners of a site: a doubled label covers another site where its side is above the corner's reach.
+// The reaches of the four corners of a site: the doubled label of a side that is judged covers another site where it is above the corner's reach.
 pub(crate) struct Reaches {
     pub first: HalfUnits,
     pub second: HalfUnits,
@@ -95,7 +95,7 @@ fn passed(reaches: Reaches, i: usize, s: Place, j: usize, t: Place) -> Reaches
     nearer(reaches, s, t)
 }
 
-// The reaches of site `i`: over no other site they are the greatest doubled side, and each other site may lower them.
+// The reaches of site `i`: over no other site they are twice the side at which free is judged, and each other site may lower them.
 fn reaches_of(xs: &[u32; Limits::SITES], ys: &[u32; Limits::SITES], n: usize, i: usize) -> Reaches
     requires { ⌜ Held n (now xs) (now ys) judgedFree × (i < n) ⌝ }
     ensures { λ r. ⌜ SiteReaches (sitesOf n (now (xs .entry)) (now (ys .entry))) i r ⌝ }

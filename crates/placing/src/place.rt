@@ -21,7 +21,7 @@ fn clear(table: &mut [u8], m: usize)
     }
 }
 
-// The answer for the first `n` of these sites. The lent table holds `n` bytes while a corner is tried.
+// The answer for the first `n` of these sites. Of the lent table the first `n` bytes hold marks until the end.
 pub fn place_labels(sites: [Place; Limits::SITES], n: usize, table: &mut [u8]) -> Placed
     requires { ⌜ MayPlace n sites (now table) ⌝ }
     ensures answer { λ r. ⌜ r ≡ placedAs (answerOf (take n sites)) ⌝ }

@@ -1,7 +1,7 @@
 // A trial decides a corner of one site and carries on: a decided site closes the corners of others that its label meets, and
 // a site left with one corner is decided too. Four bytes a site say which corners are open, one byte which is decided; a byte
-// of the lent table marks a site whose decision has been carried out. The arrays are lent, since handing them on by value costs
-// more than all the tests; a trial keeps a copy of them as they came, to put back where it fails.
+// of the lent table marks a site whose decision has been carried out. The arrays are lent; a trial keeps a copy
+// of them as they came, to put back where it fails.
 use crate::geometry::meet;
 use crate::sites::place_of;
 use crate::units::HalfUnits;
@@ -244,7 +244,7 @@ fn take_corner(ways: &mut [u8; Limits::WAYS], decided: &mut [u8; Limits::SITES],
     decided[i] = c;
 }
 
-// Tries corner `c` of site `i`. Where the trial fails, the arrays are put back as they came.
+// Tries corner `c` of site `i`. No where the trial fails; the arrays are then put back as they came.
 pub(crate) fn try_corner(
     xs: &[u32; Limits::SITES],
     ys: &[u32; Limits::SITES],

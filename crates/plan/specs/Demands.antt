@@ -1,5 +1,5 @@
 -- The three demands of document 01, in its order: the whole claim on what a list gives. The contract of output cites all of it,
--- that of write demand 3 and the list of demand 2. Each call by itself states its answer, and the number of it, as an equation
+-- that of write demand 3 and the list of demand 2. Each call that can refuse states its answer, and the number of it, as an equation
 -- with a definition of Calls: enterNumber, readNumber, placeNumber, askSideNumber, askCornerNumber, writeNumber.
 -- Assumes nothing.
 use mathlib.Core.Path.{_≡_}
@@ -7,7 +7,8 @@ use mathlib.Core.List.{List, []}
 use mathlib.Core.Option.{some}
 use Prim.Native.Nat.{ℕ, _*_, _≤_, _<_}
 use lib.ListN.{length, take}
-use Rattle.placing.specs.rules.Choice.{Corners, MeetingPair}
+use Rattle.placing.specs.rules.Corners.{Corners}
+use Rattle.placing.specs.rules.Choice.{MeetingPair}
 use Rattle.placing.specs.rules.Answer.{Answer, answerOf, IsAnswer}
 use Rattle.plan.specs.declared.plan.Written.{Written}
 use Rattle.plan.specs.declared.plan.Written.the-variants.{Bytes, NotWritten}

@@ -12,7 +12,7 @@ use crate::refusal::Outcome;
 use crate::refusal::Refusal;
 use placing::place::place_labels;
 ghost use mathlib.Core.Path.{_≡_};
-ghost use Rattle.placing.specs.rules.Choice.{cornerAt};
+ghost use Rattle.placing.specs.rules.Corners.{cornerAt};
 ghost use Rattle.plan.specs.rules.Plan.{sitesIn, Valid};
 ghost use Rattle.plan.specs.rules.Calls.{enteredIn, placedIn, tableAfter, answerFor, sideAsked, cornerAsked, counted};
 ghost use Rattle.plan.specs.rules.Calls.{outcomeNumber, enterNumber, placeNumber, carriedAt};

@@ -17,7 +17,8 @@ use Rattle.placing.specs.declared.units.Place.{Place}
 use Rattle.placing.specs.declared.units.Side.{Side}
 use Rattle.placing.specs.declared.units.Side.the-variants.{Number, Free}
 use Rattle.placing.specs.rules.Units.{mostSites, Distinct, freeSide}
-use Rattle.placing.specs.rules.Choice.{cornerAt, Good, First, Before, lower, later, good-one-exists}
+use Rattle.placing.specs.rules.Corners.{cornerAt, Before, lower, later}
+use Rattle.placing.specs.rules.Choice.{Good, First, good-one-exists}
 use Rattle.placing.specs.rules.Answer.{answerOf, firstGood, firstGood-some, firstGood-none, answer-found, answer-free}
 use Rattle.placing.specs.code.Sites.{Held, sitesOf}
 use Rattle.placing.specs.code.Crowding.{judgedFree, CrowdingIs}

@@ -13,7 +13,7 @@ use Rattle.placing.specs.declared.units.HalfUnits.{HalfUnits}
 use Rattle.placing.specs.rules.Corner.{Corner}
 use Rattle.placing.specs.rules.Units.{mostSites}
 use Rattle.placing.specs.code.Sites.{held-place}
-use Rattle.placing.specs.rules.Choice.{cornerAt}
+use Rattle.placing.specs.rules.Corners.{cornerAt}
 use Rattle.placing.specs.search.Problem.{Problem}
 use Rattle.placing.specs.search.Rows.{rowOf, row-zero, row-at, row-written, row-kept, row-elsewhere}
 use Rattle.placing.specs.search.State.{SomeOpen, TwoOpen, CarriedTo}

@@ -1,6 +1,7 @@
 -- Labels of side h as a problem of candidates and conflicts: a corner is a candidate where it is not crowded, and two corners of
 -- different sites are in conflict where their labels meet. Of the geometry the search takes the two-way fact, theorem 3
--- (`one-of-three`), and that meeting is symmetric.
+-- (`one-of-three`), and that meeting is symmetric. What theorem 3 says beside it, that uncrowded labels meet at equal corners only
+-- (`same-corner`), stands below for the code, which is the faster for it.
 -- Assumes nothing.
 use mathlib.Core.Path.{_≡_, sym, _∙_}
 use mathlib.Core.List.{List}
@@ -11,7 +12,8 @@ use Rattle.placing.specs.declared.units.Place.{Place}
 use Rattle.placing.specs.rules.Corner.{Corner}
 use Rattle.placing.specs.rules.Meet.{Meet, meet-symmetric}
 use Rattle.placing.specs.rules.Crowd.{Crowded}
-use Rattle.placing.specs.rules.Choice.{Good, cornerAt}
+use Rattle.placing.specs.rules.Corners.{cornerAt}
+use Rattle.placing.specs.rules.Choice.{Good}
 use Rattle.placing.specs.code.Sites.{placeAt, sitesOf, length-sites, site-at}
 use Rattle.placing.specs.search.Problem.{Problem, Solution, Dead}
 use Rattle.placing.specs.theorems.TwoWays.{Alone, one-of-three, same-corner}

@@ -12,7 +12,7 @@ use Rattle.placing.specs.declared.trial.Left.{Left}
 use Rattle.placing.specs.declared.trial.Left.the-variants.{Nothing, One, More}
 use Rattle.placing.specs.rules.Units.{mostSites}
 use Rattle.placing.specs.rules.Meet.{Meet}
-use Rattle.placing.specs.rules.Choice.{cornerAt}
+use Rattle.placing.specs.rules.Corners.{cornerAt}
 use Rattle.placing.specs.code.Sites.{placeAt}
 use Rattle.placing.specs.search.Problem.{Problem, Solution}
 use Rattle.placing.specs.search.Rows.{rowAt, rowOf}

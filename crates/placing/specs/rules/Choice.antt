@@ -6,23 +6,15 @@ use mathlib.Core.Logic.{_≢_, Ne·symm, _⊎_, inl, inr}
 use Prim.Native.Nat.{ℕ, _≤_, _<_}
 use native.Mathlib.Decide.{ℕ-discrete, decLt}
 use native.Mathlib.Omega.{arith}
-use lib.ListN.{length, getD, replicate, length-replicate, getD-replicate}
+use lib.ListN.{length, replicate, length-replicate, getD-replicate}
 use Rattle.placing.specs.declared.units.Place.{Place}
 use Rattle.placing.specs.declared.corner.Direction.{Direction}
 use Rattle.placing.specs.declared.corner.Direction.the-variants.{Up, Down}
 use Rattle.placing.specs.rules.Units.{xOf, yOf, siteAt, greatestCoordinate, freeSide, Same, Distinct, InRange}
 use Rattle.placing.specs.rules.Corner.{Corner, alongX, alongY}
+use Rattle.placing.specs.rules.Corners.{cornerAt, Corners, Before, lower, later}
 use Rattle.placing.specs.rules.Meet.{Overlap, Meet, meet-larger-whole}
 use Rattle.placing.specs.rules.Crowd.{Ahead, DoubledCovers, Crowded, crowded-larger}
-
--- The corner that a list of corners gives site number i.
-abbrev pub cornerAt : List ℕ → ℕ → ℕ
-cornerAt cs i = getD cs i 0
-
--- A list of corners, one for each of n sites.
-pub record Corners (n : ℕ) (cs : List ℕ) : Type 0 where
-  pub one-each : length cs ≡ n
-  pub corner : (i : ℕ) → i < n → Corner (cornerAt cs i)
 
 -- "One corner for every site, none crowded at h, no two labels meeting at h."
 pub record Good (h : ℕ) (ps : List Place) (cs : List ℕ) : Type 0 where
@@ -39,11 +31,6 @@ pub record MeetingPair (p q : ℕ) (ps : List Place) (cs : List ℕ) : Type 0 wh
   pub second-listed : second < length ps
   pub different : first ≢ second
   pub meet : Meet p q (siteAt ps first) (cornerAt cs first) (siteAt ps second) (cornerAt cs second)
-
--- The first list of corners comes before the second: it has the lower corner at the first site where they differ.
-pub data Before : List ℕ → List ℕ → Type 0 where
-  lower : {c e : ℕ} {cs es : List ℕ} → c < e → Before (c ∷ cs) (e ∷ es)
-  later : {c : ℕ} {cs es : List ℕ} → Before cs es → Before (c ∷ cs) (c ∷ es)
 
 -- "First means: lowest corner for the first site, then for the second, and so on, among good choices only."
 pub record First (h : ℕ) (ps : List Place) (cs : List ℕ) : Type 0 where

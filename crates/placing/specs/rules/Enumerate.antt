@@ -12,7 +12,8 @@ use native.Mathlib.Decide.{ℕ-discrete}
 use lib.ListN.{length}
 use Rattle.placing.specs.declared.units.Place.{Place}
 use Rattle.placing.specs.rules.Corner.{Corner}
-use Rattle.placing.specs.rules.Choice.{cornerAt, Corners, Good, Before, lower, later, First, first-unique}
+use Rattle.placing.specs.rules.Corners.{cornerAt, Corners, Before, lower, later}
+use Rattle.placing.specs.rules.Choice.{Good, First, first-unique}
 
 -- The first k corners from c on are tried in turn, each with the corners for the sites after it that `rest` finds for it.
 abbrev pub tryFrom : (c k : ℕ) → (ℕ → Option (List ℕ)) → Option (List ℕ)

@@ -18,7 +18,8 @@ use Rattle.placing.specs.rules.Units.{dist, xOf, yOf, siteAt, Same, same
 use Rattle.placing.specs.rules.Corner.{Corner, alongX, alongY}
 use Rattle.placing.specs.rules.Meet.{Overlap, Meet}
 use Rattle.placing.specs.rules.Crowd.{Ahead, DoubledCovers, Crowded}
-use Rattle.placing.specs.rules.Choice.{cornerAt, Corners, Good}
+use Rattle.placing.specs.rules.Corners.{cornerAt, Corners}
+use Rattle.placing.specs.rules.Choice.{Good}
 
 -- The tests of numbers decide.
 pub le-decides : (a b : ℕ) → Decides (leb a b) (a ≤ b)

@@ -9,7 +9,7 @@ use native.Mathlib.Decide.{decLt}
 use native.Mathlib.Omega.{arith}
 use lib.ListN.{length, take}
 use lib.Seq.{length-take-le, getD-take}
-use Rattle.placing.specs.rules.Choice.{cornerAt, Before, lower, later}
+use Rattle.placing.specs.rules.Corners.{cornerAt, Before, lower, later}
 use Rattle.placing.specs.search.Problem.{Problem, Solution}
 use Rattle.placing.specs.search.Rows.{rowOf}
 use Rattle.placing.specs.search.State.{Follows, Greater, Walked}

@@ -7,7 +7,7 @@ use mathlib.Core.Logic.{_≢_, _⊎_}
 use Prim.Native.Nat.{ℕ, _<_}
 use lib.ListN.{length}
 use Rattle.placing.specs.rules.Corner.{Corner}
-use Rattle.placing.specs.rules.Choice.{cornerAt}
+use Rattle.placing.specs.rules.Corners.{cornerAt}
 
 -- Candidate c of site i conflicts with no candidate of another site. A candidate that is not dead is live.
 pub record Dead (n : ℕ) (Candidate : ℕ → ℕ → Type 0) (Conflict : ℕ → ℕ → ℕ → ℕ → Type 0) (i c : ℕ) : Type 0 where

@@ -8,7 +8,7 @@ use Prim.Native.Nat.{ℕ, _<_}
 use native.Mathlib.Decide.{ℕ-discrete}
 use native.Mathlib.Omega.{arith}
 use Rattle.placing.specs.rules.Corner.{Corner}
-use Rattle.placing.specs.rules.Choice.{cornerAt}
+use Rattle.placing.specs.rules.Corners.{cornerAt}
 use Rattle.placing.specs.search.Problem.{Problem, Solution}
 use Rattle.placing.specs.search.Rows.{rowOf}
 use Rattle.placing.specs.search.State.{

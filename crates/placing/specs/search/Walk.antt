@@ -8,7 +8,7 @@ use native.Mathlib.Numerals.{add-one}
 use native.Mathlib.Decide.{ℕ-discrete, decLt}
 use native.Mathlib.Omega.{arith}
 use Rattle.placing.specs.rules.Corner.{Corner}
-use Rattle.placing.specs.rules.Choice.{cornerAt}
+use Rattle.placing.specs.rules.Corners.{cornerAt}
 use Rattle.placing.specs.search.Problem.{Problem, Solution}
 use Rattle.placing.specs.search.Rows.{rowOf}
 use Rattle.placing.specs.search.State.{Closed, Follows, Refused, Onward, Greater, Walked, Fresh}

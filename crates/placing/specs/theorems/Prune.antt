@@ -15,7 +15,8 @@ use Rattle.placing.specs.declared.units.Place.{Place}
 use Rattle.placing.specs.rules.Units.{siteAt}
 use Rattle.placing.specs.rules.Meet.{Meet, meet-symmetric}
 use Rattle.placing.specs.rules.Crowd.{Crowded}
-use Rattle.placing.specs.rules.Choice.{cornerAt, Corners, Good}
+use Rattle.placing.specs.rules.Corners.{cornerAt, Corners}
+use Rattle.placing.specs.rules.Choice.{Good}
 use Rattle.placing.specs.rules.Decides.{Decides, decides-same}
 use Rattle.placing.specs.rules.Tests.{
   both-decide,

@@ -16,7 +16,7 @@ use Rattle.placing.specs.rules.Corner.{alongX, alongY}
 use Rattle.placing.specs.rules.Cover.{Fraction, Point, moved, Covers}
 use Rattle.placing.specs.rules.Meet.{Overlap, Meet}
 use Rattle.placing.specs.theorems.Common.{Within, within-overlap, covers-within, meet-common, common-meet}
-use Rattle.placing.specs.rules.Choice.{cornerAt, Corners}
+use Rattle.placing.specs.rules.Corners.{cornerAt, Corners}
 
 -- From the site's coordinate a in direction d, t lies at 0 or further, and no further than p/q half units.
 abbrev pub Reaches : (p q : ℕ) → Direction → ℕ → Fraction → Type 0

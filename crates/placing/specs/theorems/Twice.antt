@@ -15,7 +15,8 @@ use Rattle.placing.specs.rules.Units.{dist, xOf, yOf}
 use Rattle.placing.specs.rules.Corner.{alongX, alongY}
 use Rattle.placing.specs.rules.Meet.{Overlap, Meet, meet-larger}
 use Rattle.placing.specs.rules.Crowd.{Ahead, DoubledCovers}
-use Rattle.placing.specs.rules.Choice.{cornerAt, Corners, Good, MeetingPair}
+use Rattle.placing.specs.rules.Corners.{cornerAt, Corners}
+use Rattle.placing.specs.rules.Choice.{Good, MeetingPair}
 use Rattle.placing.specs.rules.Decides.{Decides, decides-same, decided}
 use Rattle.placing.specs.rules.Tests.{someBelow, some-decides, pairTest, pair-decides}
 use Rattle.placing.specs.rules.Answer.{numbered, IsAnswer, is-number}

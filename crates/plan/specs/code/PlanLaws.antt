@@ -11,7 +11,7 @@ use Rattle.placing.specs.declared.side.Placed.{Placed}
 use Rattle.placing.specs.declared.units.Place.{Place}
 use Rattle.placing.specs.declared.units.Side.the-variants.{Free}
 use Rattle.placing.specs.rules.Units.{nowhere, mostSites}
-use Rattle.placing.specs.rules.Choice.{cornerAt}
+use Rattle.placing.specs.rules.Corners.{cornerAt}
 use Rattle.placing.specs.rules.Answer.{Answer, answerOf}
 use Rattle.placing.specs.rules.Placing.{placedAs, MayPlace}
 use Rattle.plan.specs.declared.name.Name.{Name}

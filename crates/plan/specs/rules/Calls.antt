@@ -9,7 +9,7 @@ use lib.ListN.{length, drop, replicate}
 use Rattle.placing.specs.declared.units.Side.{Side}
 use Rattle.placing.specs.declared.units.Side.the-variants.{Number, Free}
 use Rattle.placing.specs.rules.Units.{greatestCoordinate, mostSites}
-use Rattle.placing.specs.rules.Choice.{cornerAt}
+use Rattle.placing.specs.rules.Corners.{cornerAt}
 use Rattle.placing.specs.rules.Answer.{Answer, answerOf}
 use Rattle.plan.specs.declared.refusal.Outcome.{Outcome}
 use Rattle.plan.specs.declared.refusal.Outcome.the-variants.{Done, Refused}
@@ -74,7 +74,8 @@ abbrev pub writtenLength : Written → Option ℕ
 writtenLength (Bytes n) = some n
 writtenLength (NotWritten why) = none
 
--- The number of a refusal where its condition holds; else the number that the tests after it give.
+-- The number of a refusal where its condition holds; else the number that the tests after it give. The calls below give the numbers
+-- as document 01 writes them.
 abbrev pub numberIf : Bool → ℕ → ℕ → ℕ
 numberIf true number otherwise = number
 numberIf false number otherwise = otherwise

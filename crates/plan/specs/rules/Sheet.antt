@@ -11,7 +11,8 @@ use Rattle.placing.specs.declared.units.Side.{Side}
 use Rattle.placing.specs.declared.units.Side.the-variants.{Number, Free}
 use Rattle.placing.specs.rules.Units.{mostSites, freeSide, xOf, yOf}
 use Rattle.placing.specs.rules.Corner.{Corner}
-use Rattle.placing.specs.rules.Choice.{Corners, Good, cornerAt}
+use Rattle.placing.specs.rules.Corners.{Corners, cornerAt}
+use Rattle.placing.specs.rules.Choice.{Good}
 use Rattle.placing.specs.rules.Answer.{Answer, answerOf, IsAnswer, is-free, is-number, answer-is}
 use Rattle.plan.specs.rules.Text.{tab, lineFeed, linesAfter, linesOf, Without, without-append, lines-more}
 use Rattle.plan.specs.rules.Number.{decimal, mostDigits, decimal-without, decimal-short, decimal-some, decimal-digit}

@@ -11,7 +11,8 @@ use Rattle.placing.specs.declared.units.Place.{Place}
 use Rattle.placing.specs.declared.units.Side.{Side}
 use Rattle.placing.specs.declared.units.Side.the-variants.{Number, Free}
 use Rattle.placing.specs.rules.Units.{xOf, yOf}
-use Rattle.placing.specs.rules.Choice.{Corners, MeetingPair}
+use Rattle.placing.specs.rules.Corners.{Corners}
+use Rattle.placing.specs.rules.Choice.{MeetingPair}
 use Rattle.placing.specs.rules.Answer.{Answer, answerOf, IsAnswer, is-free, is-number, answer-is}
 use Rattle.placing.specs.theorems.Twice.{answer-twice}
 use Rattle.plan.specs.declared.refusal.Refusal.{Refusal}

@@ -1,6 +1,7 @@
 -- What the functions ask and promise, in terms of the arrays that they hold.
 pub mod Sites
 pub mod Labels
+pub mod Reach
 pub mod Crowding
 pub mod Ways
 pub mod Asks

@@ -1,19 +1,21 @@
 // How far each corner reaches before it is crowded. This does not depend on the side that is tried, so it is found once for a
-// list.
+// list. Where all four corners of a site are crowded there is no good choice: so the reaches also bound the side.
+use crate::geometry::distance;
 use crate::geometry::doubled_covers;
 use crate::sites::place_of;
 use crate::units::HalfUnits;
 use crate::units::Limits;
 use crate::units::Place;
-use crate::units::Units;
 ghost use mathlib.Core.Path.{_≡_};
 ghost use Prim.Native.Nat.{_<_, max};
-ghost use Rattle.placing.specs.rules.Units.{OnPlan, dist, mostSites};
+ghost use Rattle.placing.specs.rules.Units.{OnPlan, mostSites, doubled, Judged};
 ghost use Rattle.placing.specs.rules.Corner.{Corner};
 ghost use Rattle.placing.specs.code.Sites.{Held, sitesOf};
-ghost use Rattle.placing.specs.code.Crowding.{distanceBetween, Lowered, Nearer, Passed, SiteReaches, CrowdingIs, judgedFree, withSite};
+ghost use Rattle.placing.specs.code.Reach.{distanceBetween, Lowered, Nearer, ReachesWithin, Passed, SiteReaches};
+ghost use Rattle.placing.specs.code.Crowding.{topOf, CrowdingIs, judgedFree, withSite};
 
-// The reaches of the four corners of a site: the doubled label of a side that is judged covers another site where it is above the corner's reach.
+// The reaches of the four corners of a site: the doubled label of a side covers another site where it is above the corner's
+// reach.
 pub(crate) struct Reaches {
     pub first: HalfUnits,
     pub second: HalfUnits,
@@ -21,25 +23,17 @@ pub(crate) struct Reaches {
     pub fourth: HalfUnits,
 }
 
-// For each corner, its reach at each site.
+// For each corner, its reach at each site; and the top, the side above which some site has no corner left. The reaches hold for
+// sides up to the top.
 pub(crate) struct Crowding {
     pub first: [HalfUnits; Limits::SITES],
     pub second: [HalfUnits; Limits::SITES],
     pub third: [HalfUnits; Limits::SITES],
     pub fourth: [HalfUnits; Limits::SITES],
+    pub top: HalfUnits,
 }
 
-fn distance(a: Units, b: Units) -> Units
-    ensures { λ r. ⌜ r .0 ≡ dist (a .0) (b .0) ⌝ }
-{
-    if a.0 <= b.0 {
-        Units(b.0 - a.0)
-    } else {
-        Units(a.0 - b.0)
-    }
-}
-
-fn larger(a: Units, b: Units) -> Units
+fn larger(a: HalfUnits, b: HalfUnits) -> HalfUnits
     ensures { λ r. ⌜ r .0 ≡ max (a .0) (b .0) ⌝ }
 {
     if a.0 <= b.0 { b } else { a }
@@ -50,7 +44,7 @@ fn distance_between(s: Place, t: Place) -> HalfUnits
     requires { ⌜ OnPlan s × OnPlan t ⌝ }
     ensures { λ r. ⌜ r .0 ≡ distanceBetween s t ⌝ }
 {
-    larger(distance(s.x, t.x), distance(s.y, t.y)).in_half_units()
+    larger(distance(s.x, t.x), distance(s.y, t.y))
 }
 
 // The reach of corner `c` of `s`, `reach` so far, with one other site more: `t`, which lies `away` from `s`. The distance is
@@ -83,25 +77,35 @@ fn nearer(reaches: Reaches, s: Place, t: Place) -> Reaches
     }
 }
 
-// The reaches of site `i`, which stands at `s`, `reaches` so far, with site `j` passed, which stands at `t`. A site does not
-// crowd itself.
-fn passed(reaches: Reaches, i: usize, s: Place, j: usize, t: Place) -> Reaches
-    requires { ⌜ OnPlan s × OnPlan t ⌝ }
+// The reaches of site `i`, which stands at `s`, for sides up to `top`: `reaches` so far, with site `j` passed, which stands at `t`. Most
+// sites lie too far away along x to count. A site does not crowd itself.
+fn passed(reaches: Reaches, top: HalfUnits, i: usize, s: Place, j: usize, t: Place) -> Reaches
+    requires { ⌜ OnPlan s × OnPlan t × Judged top × ReachesWithin (doubled (top .0)) reaches ⌝ }
     ensures { λ r. ⌜ Passed i s j t reaches r ⌝ }
 {
+    if top.doubled().0 <= distance(s.x, t.x).0 {
+        return reaches;
+    }
     if j == i {
         return reaches;
     }
     nearer(reaches, s, t)
 }
 
-// The reaches of site `i`: over no other site they are twice the side at which free is judged, and each other site may lower them.
-fn reaches_of(xs: &[u32; Limits::SITES], ys: &[u32; Limits::SITES], n: usize, i: usize) -> Reaches
-    requires { ⌜ Held n (now xs) (now ys) judgedFree × (i < n) ⌝ }
-    ensures { λ r. ⌜ SiteReaches (sitesOf n (now (xs .entry)) (now (ys .entry))) i r ⌝ }
+// The reaches of site `i` for sides up to `top`: over no other site they are twice the top, and each other site may lower them.
+fn reaches_of(
+    xs: &[u32; Limits::SITES],
+    ys: &[u32; Limits::SITES],
+    n: usize,
+    i: usize,
+    top: HalfUnits,
+) -> Reaches
+    requires { ⌜ Held n (now xs) (now ys) top × (i < n) ⌝ }
+    ensures reaches { λ r. ⌜ SiteReaches (sitesOf n (now (xs .entry)) (now (ys .entry))) (top .0) i r ⌝ }
+    ensures within { λ r. ⌜ ReachesWithin (doubled (top .0)) r ⌝ }
 {
     let s = place_of(xs[i], ys[i]);
-    let most = HalfUnits(Limits::FREE_SIDE).doubled();
+    let most = top.doubled();
     let mut reaches = Reaches {
         first: most,
         second: most,
@@ -109,39 +113,42 @@ fn reaches_of(xs: &[u32; Limits::SITES], ys: &[u32; Limits::SITES], n: usize, i:
         fourth: most,
     };
     for j in 0..n {
-        reaches = passed(reaches, i, s, j, place_of(xs[j], ys[j]));
+        reaches = passed(reaches, top, i, s, j, place_of(xs[j], ys[j]));
     }
     reaches
 }
 
-// The reaches so far, with those of site `i`.
-fn with_site(crowding: Crowding, i: usize, reaches: Reaches) -> Crowding
-    requires { ⌜ i < mostSites ⌝ }
-    ensures { λ r. ⌜ r ≡ withSite crowding i reaches ⌝ }
+// The greatest side at which a site with these reaches has a corner left: half the furthest of them.
+fn top_of(reaches: Reaches) -> HalfUnits
+    ensures { λ r. ⌜ r .0 ≡ topOf reaches ⌝ }
 {
-    let mut first = crowding.first;
-    let mut second = crowding.second;
-    let mut third = crowding.third;
-    let mut fourth = crowding.fourth;
+    larger(
+        larger(reaches.first, reaches.second),
+        larger(reaches.third, reaches.fourth),
+    ).halved()
+}
+
+// The reaches so far, with those of site `i` and the top.
+fn with_site(crowding: Crowding, i: usize, reaches: Reaches, top: HalfUnits) -> Crowding
+    requires { ⌜ i < mostSites ⌝ }
+    ensures { λ r. ⌜ r ≡ withSite crowding i reaches top ⌝ }
+{
     let Reaches {
         first: one,
         second: two,
         third: three,
         fourth: four,
     } = reaches;
-    first[i] = one;
-    second[i] = two;
-    third[i] = three;
-    fourth[i] = four;
-    Crowding {
-        first,
-        second,
-        third,
-        fourth,
-    }
+    let mut next = crowding;
+    next.first[i] = one;
+    next.second[i] = two;
+    next.third[i] = three;
+    next.fourth[i] = four;
+    next.top = top;
+    next
 }
 
-// The reaches of all sites.
+// The reaches of all sites, and the top, which each site may lower: the reaches of the next are found up to it.
 pub(crate) fn crowding_of(
     xs: &[u32; Limits::SITES],
     ys: &[u32; Limits::SITES],
@@ -155,9 +162,11 @@ pub(crate) fn crowding_of(
         second: [HalfUnits(0); Limits::SITES],
         third: [HalfUnits(0); Limits::SITES],
         fourth: [HalfUnits(0); Limits::SITES],
+        top: HalfUnits(Limits::FREE_SIDE),
     };
     for i in 0..n {
-        crowding = with_site(crowding, i, reaches_of(xs, ys, n, i));
+        let reaches = reaches_of(xs, ys, n, i, crowding.top);
+        crowding = with_site(crowding, i, reaches, top_of(reaches));
     }
     crowding
 }

@@ -47,13 +47,17 @@ pub(crate) fn fresh_state(crowding: Crowding, n: usize, side: HalfUnits) -> Stat
     requires { ⌜ (n ≤ mostSites) × Judged side ⌝ }
     ensures { λ r. ⌜ FreshState crowding n side (r .ways) (r .decided) ⌝ }
 {
-    let first = crowding.first;
-    let second = crowding.second;
-    let third = crowding.third;
-    let fourth = crowding.fourth;
     let mut ways = [0u8; Limits::WAYS];
     for i in 0..n {
-        open_row(&mut ways, first[i], second[i], third[i], fourth[i], side, i);
+        open_row(
+            &mut ways,
+            crowding.first[i],
+            crowding.second[i],
+            crowding.third[i],
+            crowding.fourth[i],
+            side,
+            i,
+        );
     }
     let decided = [0u8; Limits::SITES];
     State { ways, decided }

@@ -5,23 +5,32 @@ use crate::corner::directions_of;
 use crate::units::HalfUnits;
 use crate::units::Place;
 use crate::units::Units;
-ghost use Rattle.placing.specs.rules.Units.{OnAxis, OnPlan, Judged};
+ghost use mathlib.Core.Path.{_≡_};
+ghost use Rattle.placing.specs.rules.Units.{halves, dist, OnAxis, OnPlan, Judged};
 ghost use Rattle.placing.specs.rules.Decides.{Decides};
 ghost use Rattle.placing.specs.rules.Corner.{Corner};
 ghost use Rattle.placing.specs.rules.Meet.{Overlap, Meet};
 ghost use Rattle.placing.specs.rules.Crowd.{Ahead, DoubledCovers};
 ghost use Rattle.placing.specs.declared.corner.Direction.the-variants.{Up};
 
+// The distance between two coordinates of an axis.
+pub(crate) fn distance(a: Units, b: Units) -> HalfUnits
+    requires { ⌜ OnAxis a × OnAxis b ⌝ }
+    ensures { λ r. ⌜ r .0 ≡ halves (dist (a .0) (b .0)) ⌝ }
+{
+    if a.0 <= b.0 {
+        Units(b.0 - a.0).in_half_units()
+    } else {
+        Units(a.0 - b.0).in_half_units()
+    }
+}
+
 // Two labels that go the same way: they overlap where the side is above the distance.
 fn same_way(side: HalfUnits, a: Units, b: Units) -> bool
     requires { ⌜ OnAxis a × OnAxis b ⌝ }
     ensures { λ r. ⌜ Decides r (Overlap (side .0) 1 Up (a .0) Up (b .0)) ⌝ }
 {
-    if a.0 <= b.0 {
-        Units(b.0 - a.0).in_half_units().0 < side.0
-    } else {
-        Units(a.0 - b.0).in_half_units().0 < side.0
-    }
+    distance(a, b).0 < side.0
 }
 
 // Measured from `from`, `to` lies at 0 or more and nearer than the doubled side.

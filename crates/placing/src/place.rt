@@ -8,7 +8,7 @@ ghost use mathlib.Core.Path.{_≡_};
 ghost use mathlib.Core.List.{_++_};
 ghost use Prim.Native.Nat.{_*_, _≤_};
 ghost use lib.ListN.{length, take, drop, replicate};
-ghost use Rattle.placing.specs.rules.Answer.{answerOf};
+ghost use Rattle.placing.specs.rules.Answer.{answerOf, sideNumber};
 ghost use Rattle.placing.specs.rules.Placing.{placedAs, MayPlace};
 
 // Zeroes the first `m` bytes of a table.
@@ -25,6 +25,7 @@ fn clear(table: &mut [u8], m: usize)
 pub fn place_labels(sites: [Place; Limits::SITES], n: usize, table: &mut [u8]) -> Placed
     requires { ⌜ MayPlace n sites (now table) ⌝ }
     ensures answer { λ r. ⌜ r ≡ placedAs (answerOf (take n sites)) ⌝ }
+    ensures side { λ r. ⌜ sideNumber (r .side) ≡ sideNumber (answerOf (take n sites) .side) ⌝ }
     ensures table { λ r. ⌜ now (table .exit) ≡ replicate (n * n) 0 ++ drop (n * n) (now (table .entry)) ⌝ }
 {
     let at = coordinates_of(sites, n);

@@ -1,4 +1,5 @@
-// Finding the side: 20,001 first, which is free, else the greatest side that has a good choice, by bisection.
+// Finding the side: the greatest up to 20,001 that has a good choice; at 20,001 the answer is free. The top, above which crowding
+// leaves none, is tried first, and then what lies below it by bisection.
 use crate::choice::choose;
 use crate::crowding::Crowding;
 use crate::crowding::crowding_of;
@@ -7,7 +8,7 @@ use crate::units::Limits;
 use crate::units::Side;
 ghost use mathlib.Core.Path.{_≡_};
 ghost use mathlib.Core.List.{_++_};
-ghost use Prim.Native.Nat.{_-_, _≤_};
+ghost use Prim.Native.Nat.{_-_, _≤_, _<_};
 ghost use lib.ListN.{take, replicate};
 ghost use Rattle.placing.specs.rules.Units.{mostSites};
 ghost use Rattle.placing.specs.rules.Answer.{answerOf};
@@ -15,7 +16,7 @@ ghost use Rattle.placing.specs.code.Sites.{sitesOf};
 ghost use Rattle.placing.specs.code.Ways.{Kept};
 ghost use Rattle.placing.specs.rules.Placing.{placedAs};
 ghost use Rattle.placing.specs.code.Placed.{MayFind, MayBisect};
-ghost use Rattle.placing.specs.code.Bisect.{MayHalve, Halved};
+ghost use Rattle.placing.specs.code.Bisect.{NextIs, MayNarrow, Narrowed, SideIs};
 
 // The placed answer: the side, and the corner of each site in list order, 0 past the last.
 pub struct Placed {
@@ -35,15 +36,25 @@ fn first_corners(corners: [u8; Limits::SITES], n: usize) -> [u8; Limits::SITES]
     first
 }
 
-// Two sides of which `low` has a good choice, the first with these corners, and `high` has none.
+// Two sides: `low` has a good choice, the first with these corners, and no judged side from `high` on has one. `next`, below `high`, is
+// to be tried next; it is above `low` while a side is left to try.
 struct Between {
     low: HalfUnits,
     high: HalfUnits,
+    next: HalfUnits,
     corners: [u8; Limits::SITES],
 }
 
-// The half of what lies between in which the greatest side with a good choice is.
-fn halve(
+// The side half-way between two: what is to be tried next.
+fn middle(low: HalfUnits, high: HalfUnits) -> HalfUnits
+    requires { ⌜ low .0 < high .0 ⌝ }
+    ensures { λ r. ⌜ NextIs (low .0) (high .0) (r .0) ⌝ }
+{
+    HalfUnits(low.0 + (high.0 - low.0) / 2)
+}
+
+// Narrows what lies between, to the part in which the greatest side with a good choice is.
+fn narrow(
     xs: &[u32; Limits::SITES],
     ys: &[u32; Limits::SITES],
     n: usize,
@@ -51,32 +62,45 @@ fn halve(
     between: Between,
     marks: &mut [u8],
 ) -> Between
-    requires { ⌜ MayHalve n (now xs) (now ys) crowding between (now marks) ⌝ }
-    ensures halved { λ r. ⌜ Halved (sitesOf n (now (xs .entry)) (now (ys .entry))) n between r ⌝ }
+    requires { ⌜ MayNarrow n (now xs) (now ys) crowding between (now marks) ⌝ }
+    ensures narrowed { λ r. ⌜ Narrowed (sitesOf n (now (xs .entry)) (now (ys .entry))) n (crowding .top .0) between r ⌝ }
     ensures kept { λ r. ⌜ Kept n (now (marks .entry)) (now (marks .exit)) ⌝ }
 {
     let low = between.low;
     let high = between.high;
-    let middle = HalfUnits(low.0 + (high.0 - low.0) / 2);
-    let chosen = choose(xs, ys, n, crowding, middle, marks);
+    let side = between.next;
+    let chosen = choose(xs, ys, n, crowding, side, marks);
     if chosen.ok {
         let corners = chosen.corners;
         return Between {
-            low: middle,
+            low: side,
             high,
+            next: middle(side, high),
             corners,
         };
     }
     let corners = between.corners;
     Between {
         low,
-        high: middle,
+        high: side,
+        next: middle(low, side),
         corners,
     }
 }
 
-// The greatest side that has a good choice, where 20,001 has none. At 1 every choice is good, and corner 1 everywhere is the
-// first.
+// The side of an answer, by the greatest side that has a good choice: free is judged at 20,001.
+fn side_of(greatest: HalfUnits) -> Side
+    ensures { λ r. ⌜ SideIs greatest r ⌝ }
+{
+    if greatest.0 == Limits::FREE_SIDE {
+        Side::Free
+    } else {
+        Side::Number(greatest)
+    }
+}
+
+// The answer by bisection. At 1 every choice is good, and corner 1 everywhere is the first; the top is tried next, since it often has
+// a good choice.
 fn bisect(
     xs: &[u32; Limits::SITES],
     ys: &[u32; Limits::SITES],
@@ -88,19 +112,20 @@ fn bisect(
     ensures answer { λ r. ⌜ r ≡ placedAs (answerOf (sitesOf n (now (xs .entry)) (now (ys .entry)))) ⌝ }
     ensures kept { λ r. ⌜ Kept n (now (marks .entry)) (now (marks .exit)) ⌝ }
 {
+    let top = crowding.top;
     let mut between = Between {
         low: HalfUnits(Limits::LEAST_SIDE),
-        high: HalfUnits(Limits::FREE_SIDE),
+        high: HalfUnits(top.0 + 1),
+        next: top,
         corners: [1u8; Limits::SITES],
     };
-    while between.low.0 + 1 < between.high.0 {
-        between = halve(xs, ys, n, crowding, between, marks);
+    while between.low.0 < between.next.0 {
+        between = narrow(xs, ys, n, crowding, between, marks);
     }
-    let side = between.low;
     let corners = between.corners;
     let first = first_corners(corners, n);
     Placed {
-        side: Side::Number(side),
+        side: side_of(between.low),
         corners: first,
     }
 }
@@ -117,14 +142,5 @@ pub(crate) fn find_answer(
     ensures kept { λ r. ⌜ Kept n (now (marks .entry)) (now (marks .exit)) ⌝ }
 {
     let crowding = crowding_of(xs, ys, n);
-    let chosen = choose(xs, ys, n, crowding, HalfUnits(Limits::FREE_SIDE), marks);
-    if chosen.ok {
-        let corners = chosen.corners;
-        let first = first_corners(corners, n);
-        return Placed {
-            side: Side::Free,
-            corners: first,
-        };
-    }
     bisect(xs, ys, n, crowding, marks)
 }

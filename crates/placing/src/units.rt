@@ -1,6 +1,6 @@
 // Coordinates in units, sides in half units, and the one conversion between them.
 ghost use mathlib.Core.Path.{_≡_};
-ghost use Prim.Native.Nat.{_≤_};
+ghost use Prim.Native.Nat.{_≤_, _/_};
 ghost use Rattle.placing.specs.rules.Units.{halves, doubled, greatestCoordinate, Judged};
 
 // A coordinate, or a distance between two, in units.
@@ -56,5 +56,12 @@ impl HalfUnits {
         ensures { λ r. ⌜ r .0 ≡ doubled (self .0) ⌝ }
     {
         HalfUnits(self.0 + self.0)
+    }
+
+    // Half of a doubled side, rounded down: the greatest side whose double is no more than this.
+    pub(crate) fn halved(self) -> HalfUnits
+        ensures { λ r. ⌜ r .0 ≡ self .0 / 2 ⌝ }
+    {
+        HalfUnits(self.0 / 2)
     }
 }

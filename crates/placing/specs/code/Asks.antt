@@ -72,8 +72,9 @@ pub record MayDecide (n : ℕ) (xs ys : List ℕ) (side : HalfUnits) (ways decid
   pub listed : i < n
   pub undecided : cornerAt decided i ≡ 0
 
--- Choosing at a side.
+-- Choosing at a side up to the top.
 pub record MayChoose (n : ℕ) (xs ys : List ℕ) (side : HalfUnits) (crowding : Crowding) (marks : List ℕ) : Type 0 where
   pub held : Held n xs ys side
   pub room : n ≤ length marks
   pub crowding-is : CrowdingIs (sitesOf n xs ys) n crowding
+  pub inside : side .0 ≤ crowding .top .0

@@ -1,11 +1,12 @@
 -- The greatest side, between one that has a good choice and one that has none.
 -- Assumes nothing.
-use mathlib.Core.Path.{_≡_, refl, sym, ap, _∙_}
+use mathlib.Core.Path.{_≡_, refl, sym, ap, subst, _∙_}
 use mathlib.Core.Bool.{Bool, true, false}
 use mathlib.Core.List.{List, _∷_, _++_}
-use mathlib.Core.Option.{none}
+use mathlib.Core.Logic.{_≢_}
 use Prim.Native.Nat.{ℕ, zero, suc, _+_, _-_, _≤_, _<_, zero-le, suc-le-suc}
 use native.Mathlib.Nat.{le-of-suc-le-suc}
+use native.Mathlib.Decide.{ℕ-discrete, decLe}
 use native.Mathlib.Omega.{arith}
 use lib.ListN.{length, take, replicate}
 use Rattle.placing.specs.declared.choice.Chosen.{Chosen}
@@ -18,10 +19,10 @@ use Rattle.placing.specs.declared.units.Side.{Side}
 use Rattle.placing.specs.declared.units.Side.the-variants.{Number, Free}
 use Rattle.placing.specs.rules.Units.{mostSites, Distinct, freeSide}
 use Rattle.placing.specs.rules.Corners.{cornerAt, Before, lower, later}
-use Rattle.placing.specs.rules.Choice.{Good, First, good-one-exists}
-use Rattle.placing.specs.rules.Answer.{answerOf, firstGood, firstGood-some, firstGood-none, answer-found, answer-free}
+use Rattle.placing.specs.rules.Choice.{Good, First, good-smaller, good-one-exists}
+use Rattle.placing.specs.rules.Answer.{Answer, answerOf, firstGood, firstGood-some, firstGood-none, answer-found, answer-free}
 use Rattle.placing.specs.code.Sites.{Held, sitesOf}
-use Rattle.placing.specs.code.Crowding.{judgedFree, CrowdingIs}
+use Rattle.placing.specs.code.Crowding.{judgedFree, NoneFrom, CrowdingIs}
 use Rattle.placing.specs.code.Chosen.{whereYes, choiceIn}
 use Rattle.placing.specs.rules.Placing.{placedAs}
 
@@ -38,25 +39,31 @@ first-at-one {ps} distinct =
       none-before = λ es good. ones-first (length ps) es (λ i h. good .corners .corner i h .least);
     }
 
--- The lower side has a good choice, and these are the first one's corners; the upper side has none.
-pub record BetweenIs (ps : List Place) (n : ℕ) (between : Between) : Type 0 where
+-- The side to try next between two: below the upper one, and above the lower one unless they are one apart.
+pub record NextIs (low high next : ℕ) : Type 0 where
+  pub below : next < high
+  pub end : next ≤ low → high ≤ low + 1
+
+-- The lower side has a good choice, and these are the first one's corners; no side from the upper one on has one.
+pub record BetweenIs (ps : List Place) (n top : ℕ) (between : Between) : Type 0 where
   pub least : 1 ≤ between .low .0
   pub below : between .low .0 < between .high .0
-  pub most : between .high .0 ≤ freeSide
+  pub most : between .high .0 ≤ top + 1
   pub first : First (between .low .0) ps (take n (between .corners))
-  pub no-good : (es : List ℕ) → Good (between .high .0) ps es → ⊥
+  pub no-good : NoneFrom ps (between .high .0)
+  pub next-is : NextIs (between .low .0) (between .high .0) (between .next .0)
 
--- Halving what lies between two sides that are more than one apart.
-pub record MayHalve (n : ℕ) (xs ys : List ℕ) (crowding : Crowding) (between : Between) (marks : List ℕ) : Type 0 where
+-- Narrowing what lies between two sides where one is left to try.
+pub record MayNarrow (n : ℕ) (xs ys : List ℕ) (crowding : Crowding) (between : Between) (marks : List ℕ) : Type 0 where
   pub held : Held n xs ys judgedFree
   pub room : n ≤ length marks
   pub crowding-is : CrowdingIs (sitesOf n xs ys) n crowding
-  pub between-is : BetweenIs (sitesOf n xs ys) n between
-  pub wide : between .low .0 + 1 < between .high .0
+  pub between-is : BetweenIs (sitesOf n xs ys) n (crowding .top .0) between
+  pub left : between .low .0 < between .next .0
 
 -- What lies between is less than before.
-pub record Halved (ps : List Place) (n : ℕ) (before after : Between) : Type 0 where
-  pub between-is : BetweenIs ps n after
+pub record Narrowed (ps : List Place) (n top : ℕ) (before after : Between) : Type 0 where
+  pub between-is : BetweenIs ps n top after
   pub less : after .high .0 - after .low .0 < before .high .0 - before .low .0
 
 take-replicate : (n k : ℕ) → n ≤ k → _≡_ {A = List ℕ} (take n (replicate k 1)) (replicate n 1)
@@ -64,50 +71,70 @@ take-replicate zero k h = refl
 take-replicate (suc n) zero h = absurd (omega arith)
 take-replicate (suc n) (suc k) h = ap (λ (l : List ℕ). 1 ∷ l) (take-replicate n k (le-of-suc-le-suc h))
 
--- Where free is out, the search starts with sides 1 and 20,001.
-pub between-starts : {ps : List Place} {n : ℕ} → Distinct ps → length ps ≡ n → n ≤ mostSites → firstGood freeSide ps ≡ none
-    → BetweenIs ps n (record { low = record { 0 = 1 }; high = record { 0 = freeSide }; corners = replicate mostSites 1 })
-between-starts {ps} {n} distinct count few not-free =
+-- A good choice exists at 1, so that a side above which there is none is at least 1.
+top-least : {ps : List Place} {top : ℕ} → Distinct ps → NoneFrom ps (top + 1) → 1 ≤ top
+top-least {ps} {top} distinct none = go (decLe 1 top)
+  where
+    go : Dec (1 ≤ top) → 1 ≤ top
+    go (yes least) = least
+    go (no below) = absurd (none .none-good 1 (omega arith) (omega arith) _ (good-one-exists distinct))
+
+-- The search starts with side 1 and the side after the top, which is to be tried next.
+pub between-starts : {ps : List Place} {n : ℕ} (top : HalfUnits) → Distinct ps → length ps ≡ n → n ≤ mostSites → NoneFrom ps (top .0 + 1)
+    → BetweenIs ps n (top .0)
+    (record { low = record { 0 = 1 }; high = record { 0 = top .0 + 1 }; next = top; corners = replicate mostSites 1 })
+between-starts {ps} {n} top distinct count few none =
     record {
       least = omega arith;
-      below = omega arith;
+      below = let least = top-least distinct none in omega arith;
       most = omega arith;
       first = rw (take-replicate n mostSites few, ← count) (first-at-one distinct);
-      no-good = firstGood-none not-free;
+      no-good = none;
+      next-is = record { below = omega arith; end = λ last. omega arith };
     }
 
-module _ {ps : List Place} {n : ℕ} {between : Between} (is-between : BetweenIs ps n between)
-    (middle : HalfUnits) (above : between .low .0 < middle .0) (below : middle .0 < between .high .0)
-    (chosen : Chosen) (is : choiceIn n chosen ≡ firstGood (middle .0) ps) where
-  -- The middle has a good choice: it is the next lower end.
-  pub halved-up : chosen .ok ≡ true
-      → Halved ps n between (record { low = middle; high = between .high; corners = chosen .corners })
-  halved-up ok =
+module _ {ps : List Place} {n top : ℕ} {between : Between} (is-between : BetweenIs ps n top between)
+    (left : between .low .0 < between .next .0) (chosen : Chosen) (is : choiceIn n chosen ≡ firstGood (between .next .0) ps)
+    (next : HalfUnits) where
+  -- The side tried has a good choice: it is the next lower end.
+  pub narrowed-up : chosen .ok ≡ true → NextIs (between .next .0) (between .high .0) (next .0)
+      → Narrowed ps n top between (record { low = between .next; high = between .high; next = next; corners = chosen .corners })
+  narrowed-up ok next-is =
       record {
         between-is = record {
           least = omega (arith, is-between .least);
-          below = below;
+          below = is-between .next-is .below;
           most = is-between .most;
           first = firstGood-some (sym is ∙ ap (λ (b : Bool). whereYes b (take n (chosen .corners))) ok);
           no-good = is-between .no-good;
+          next-is = next-is;
         };
-        less = omega arith;
+        less = omega (arith, is-between .next-is .below);
       }
 
   -- It has none: it is the next upper end.
-  pub halved-down : chosen .ok ≡ false
-      → Halved ps n between (record { low = between .low; high = middle; corners = between .corners })
-  halved-down failed =
+  pub narrowed-down : chosen .ok ≡ false → NextIs (between .low .0) (between .next .0) (next .0)
+      → Narrowed ps n top between (record { low = between .low; high = between .next; next = next; corners = between .corners })
+  narrowed-down failed next-is =
       record {
         between-is = record {
           least = is-between .least;
-          below = above;
-          most = omega (arith, is-between .most);
+          below = left;
+          most = omega (arith, is-between .next-is .below, is-between .most);
           first = is-between .first;
-          no-good = firstGood-none (sym is ∙ ap (λ (b : Bool). whereYes b (take n (chosen .corners))) failed);
+          no-good = record { none-good = λ h judged above es good. none es (good-smaller above good) };
+          next-is = next-is;
         };
-        less = omega arith;
+        less = omega (arith, is-between .next-is .below);
       }
+    where
+      none : (es : List ℕ) → Good (between .next .0) ps es → ⊥
+      none = firstGood-none (sym is ∙ ap (λ (b : Bool). whereYes b (take n (chosen .corners))) failed)
+
+-- The side of an answer, by the greatest judged side that has a good choice: free at the side at which free is judged.
+pub record SideIs (greatest : HalfUnits) (side : Side) : Type 0 where
+  pub free : greatest .0 ≡ freeSide → side ≡ Free
+  pub number : greatest .0 ≢ freeSide → side ≡ Number greatest
 
 -- The record of an answer whose n corners are these.
 placed-corners : {side : Side} {ps : List Place} {h : ℕ} (n : ℕ) (corners : List ℕ) → length ps ≡ n → First h ps (take n corners)
@@ -115,28 +142,28 @@ placed-corners : {side : Side} {ps : List Place} {h : ℕ} (n : ℕ) (corners : 
     (placedAs (record { side = side; corners = take n corners }))
 placed-corners n corners count first = rw (first .good .corners .one-each, count)
 
--- Where the ends are one apart, the lower one is the answer.
-pub between-ends : {ps : List Place} {n : ℕ} {between : Between} → Distinct ps → length ps ≡ n
-    → BetweenIs ps n between → between .high .0 ≤ between .low .0 + 1
-    → _≡_ {A = Placed} (record { side = Number (between .low); corners = take n (between .corners) ++ replicate (mostSites - n) 0 })
-    (placedAs (answerOf ps))
-between-ends {ps} {n} {between} distinct count is-between end =
-    placed-corners n (between .corners) count (is-between .first)
-    ∙ ap placedAs (sym (answer-found distinct (is-between .least) (omega (arith, is-between .most, is-between .below)) (is-between .first) next))
+-- Where nothing is left to try, the lower side is the answer's.
+pub between-ends : {ps : List Place} {n top : ℕ} {between : Between} {side : Side} → top ≤ freeSide → Distinct ps → length ps ≡ n
+    → BetweenIs ps n top between → between .next .0 ≤ between .low .0 → SideIs (between .low) side
+    → _≡_ {A = Placed} (record { side = side; corners = take n (between .corners) ++ replicate (mostSites - n) 0 }) (placedAs (answerOf ps))
+between-ends {ps} {n} {top} {between} {side} judged distinct count is-between last is-side =
+    placed-corners n (between .corners) count (is-between .first) ∙ ap placedAs (go (ℕ-discrete low freeSide))
   where
-    next : (es : List ℕ) → Good (suc (between .low .0)) ps es → ⊥
-    next = let last : between .high .0 ≡ suc (between .low .0) = omega (arith, is-between .below) in rw last at (is-between .no-good)
+    low : ℕ
+    low = between .low .0
 
--- Where 20,001 has a good choice, the answer is free.
-pub free-placed : {ps : List Place} (n : ℕ) (chosen : Chosen) → Distinct ps → length ps ≡ n
-    → choiceIn n chosen ≡ firstGood freeSide ps → chosen .ok ≡ true
-    → _≡_ {A = Placed} (record { side = Free; corners = take n (chosen .corners) ++ replicate (mostSites - n) 0 }) (placedAs (answerOf ps))
-free-placed {ps} n chosen distinct count is ok =
-    let first : First freeSide ps (take n (chosen .corners)) =
-    firstGood-some (sym is ∙ ap (λ (b : Bool). whereYes b (take n (chosen .corners))) ok) in
-    placed-corners n (chosen .corners) count first ∙ ap placedAs (sym (answer-free distinct first))
+    cs : List ℕ
+    cs = take n (between .corners)
 
--- Where it has none, free is out.
-pub not-free : (ps : List Place) (n : ℕ) (chosen : Chosen) → choiceIn n chosen ≡ firstGood freeSide ps → chosen .ok ≡ false
-    → firstGood freeSide ps ≡ none
-not-free ps n chosen is failed = sym is ∙ ap (λ (b : Bool). whereYes b (take n (chosen .corners))) failed
+    next : low ≢ freeSide → (es : List ℕ) → Good (suc low) ps es → ⊥
+    next below =
+        is-between .no-good .none-good (suc low) (omega (arith, is-between .below, is-between .most))
+        (omega (arith, is-between .next-is .end last))
+
+    go : Dec (low ≡ freeSide) → _≡_ {A = Answer} (record { side = side; corners = cs }) (answerOf ps)
+    go (yes at-free) =
+        (λ k. record { side = is-side .free at-free k; corners = cs })
+        ∙ sym (answer-free distinct (subst (λ h. First h ps cs) at-free (is-between .first)))
+    go (no below) =
+        (λ k. record { side = is-side .number below k; corners = cs })
+        ∙ sym (answer-found distinct (is-between .least) (omega (arith, is-between .below, is-between .most)) (is-between .first) (next below))

@@ -12,11 +12,12 @@ use Rattle.placing.specs.declared.crowding.Crowding.{Crowding}
 use Rattle.placing.specs.declared.crowding.Reaches.{Reaches}
 use Rattle.placing.specs.declared.units.HalfUnits.{HalfUnits}
 use Rattle.placing.specs.declared.units.Place.{Place}
-use Rattle.placing.specs.rules.Units.{mostSites, freeSide, doubled}
+use Rattle.placing.specs.rules.Units.{mostSites, doubled}
 use Rattle.placing.specs.rules.Corner.{Corner}
 use Rattle.placing.specs.rules.Crowd.{Crowded}
 use Rattle.placing.specs.code.Sites.{sitesOf}
-use Rattle.placing.specs.code.Crowding.{reachOf, reachesAt, ReachIs, CrowdingIs}
+use Rattle.placing.specs.code.Reach.{ReachIs, reachOf}
+use Rattle.placing.specs.code.Crowding.{reachesAt, CrowdingIs}
 use Rattle.placing.specs.search.Rows.{rowAt, rowOf}
 use Rattle.placing.specs.search.State.{Fresh}
 use Rattle.placing.specs.code.Labels.{labels}
@@ -41,7 +42,7 @@ pub record OpenedBelow (crowding : Crowding) (side k : ℕ) (ways : List ℕ) : 
 -- The state at a side before anything is decided, for every n sites that have these reaches.
 pub record FreshState (crowding : Crowding) (n : ℕ) (side : HalfUnits) (ways decided : List ℕ) : Type 0 where
   pub sizes : Sizes ways decided
-  pub fresh : (xs ys : List ℕ) → side .0 ≤ freeSide → CrowdingIs (sitesOf n xs ys) n crowding
+  pub fresh : (xs ys : List ℕ) → side .0 ≤ crowding .top .0 → CrowdingIs (sitesOf n xs ys) n crowding
       → Fresh (labels (side .0) n xs ys) ways decided
 
 -- Only a corner has a byte that is 1, of four ..
@@ -158,11 +159,11 @@ opened-more {crowding} {side} {k} {ways} {ways′} so-far row =
     go i c listed corner (no earlier) = rw (row .elsewhere i earlier) (so-far .at-site i c (omega arith) corner)
 
 -- A corner is open where it is a candidate, and only there.
-module _ {ps : List Place} {side i c reach byte : ℕ} (judged : side ≤ freeSide) (known : ReachIs ps i c reach)
+module _ {ps : List Place} {top side i c reach byte : ℕ} (inside : side ≤ top) (known : ReachIs ps top i c reach)
     (written : OpenByte reach side byte) where
   open-uncrowded : byte ≡ 1 → Crowded side ps i c → ⊥
   open-uncrowded one crowded =
-      let passed = known .below side judged crowded in
+      let passed = known .below side inside crowded in
       let within = written .uncrowded one in
       omega arith
 
@@ -171,7 +172,7 @@ module _ {ps : List Place} {side i c reach byte : ℕ} (judged : side ≤ freeSi
     where
       go : Dec (doubled side ≤ reach) → byte ≡ 1
       go (yes within) = written .opens within
-      go (no beyond) = absurd (uncrowded (known .crowds side judged (omega arith)))
+      go (no beyond) = absurd (uncrowded (known .crowds side inside (omega arith)))
 
 -- With the bytes of all sites written, and nothing decided, the state is fresh.
 pub fresh-all : {crowding : Crowding} {n : ℕ} {side : HalfUnits} {ways : List ℕ} → n ≤ mostSites → OpenedBelow crowding (side .0) n ways
@@ -179,16 +180,16 @@ pub fresh-all : {crowding : Crowding} {n : ℕ} {side : HalfUnits} {ways : List 
 fresh-all {crowding} {n} {side} {ways} few opened =
     record {
       sizes = record { ways-size = opened .size; decided-size = refl };
-      fresh = λ xs ys judged known.
+      fresh = λ xs ys inside known.
           record {
             candidate = λ i c listed one.
                 let corner = open-corner ways i c one in
                 record {
                   corner = corner;
-                  uncrowded = open-uncrowded judged (known .at-site i listed .at-corner c corner) (opened .at-site i c listed corner) one;
+                  uncrowded = open-uncrowded inside (known .at-site i listed .at-corner c corner) (opened .at-site i c listed corner) one;
                 };
             all-open = λ i c listed candidate.
-                uncrowded-open judged (known .at-site i listed .at-corner c (candidate .corner))
+                uncrowded-open inside (known .at-site i listed .at-corner c (candidate .corner))
                 (opened .at-site i c listed (candidate .corner)) (candidate .uncrowded);
             undecided = λ i listed. getD-replicate mostSites i 0 0 (omega arith);
           };

@@ -2,15 +2,13 @@
 -- Assumes nothing.
 use mathlib.Core.Path.{_≡_, sym, ap, _∙_}
 use mathlib.Core.List.{List}
-use mathlib.Core.Option.{none}
 use Prim.Native.Nat.{ℕ, _*_, _≤_, _<_}
 use native.Mathlib.Nat.{mul-le-mul-right}
 use native.Mathlib.Omega.{arith}
 use lib.ListN.{length, take}
 use Rattle.placing.specs.declared.crowding.Crowding.{Crowding}
 use Rattle.placing.specs.declared.units.Place.{Place}
-use Rattle.placing.specs.rules.Units.{Distinct, freeSide, xOf, yOf, siteAt}
-use Rattle.placing.specs.rules.Answer.{firstGood}
+use Rattle.placing.specs.rules.Units.{Distinct, xOf, yOf, siteAt}
 use Rattle.placing.specs.rules.Placing.{MayPlace}
 use Rattle.placing.specs.code.Sites.{Held, CoordinatesOf, placeAt, sitesOf, length-sites, site-at}
 use Rattle.placing.specs.code.Crowding.{judgedFree, CrowdingIs}
@@ -21,13 +19,12 @@ pub record MayFind (n : ℕ) (xs ys : List ℕ) (marks : List ℕ) : Type 0 wher
   pub distinct : Distinct (sitesOf n xs ys)
   pub room : n ≤ length marks
 
--- Bisecting where 20,001 has no good choice.
+-- Bisecting, with the reaches and the top known.
 pub record MayBisect (n : ℕ) (xs ys : List ℕ) (crowding : Crowding) (marks : List ℕ) : Type 0 where
   pub held : Held n xs ys judgedFree
   pub distinct : Distinct (sitesOf n xs ys)
   pub room : n ≤ length marks
   pub crowding-is : CrowdingIs (sitesOf n xs ys) n crowding
-  pub not-free : firstGood freeSide (sitesOf n xs ys) ≡ none
 
 -- The lists of coordinates of a list that may be placed.
 pub may-find : {n : ℕ} {sites : List Place} {xs ys table : List ℕ} → MayPlace n sites table → CoordinatesOf n sites xs ys

@@ -33,6 +33,11 @@ pub record Answer : Type 0 where
   pub side : Side
   pub corners : List ℕ
 
+-- The number of half units that a side carries, where it is a number and not free.
+abbrev pub sideNumber : Side → Option ℕ
+sideNumber (Number side) = some (side .0)
+sideNumber Free = none
+
 -- The answer of a side h.
 abbrev pub numbered : ℕ → List ℕ → Answer
 numbered h cs = record { side = Number (record { 0 = h }); corners = cs }

@@ -46,7 +46,8 @@ xOf s = s .x .0
 abbrev pub yOf : Place → ℕ
 yOf s = s .y .0
 
--- The place at which a site stands whose number is not on the list: nothing depends on it.
+-- The place 0, 0: no rule speaks of the site of a number past a list's end, which stands there; the plan's record holds it in its
+-- empty slots.
 abbrev pub nowhere : Place
 nowhere = record { x = record { 0 = 0 }; y = record { 0 = 0 } }
 

@@ -1,11 +1,13 @@
 -- Document 01: "The greatest side at which such labels are pairwise disjoint is the supremum that document 001 asks of closed
--- squares." A side has a choice of pairwise disjoint labels exactly when every smaller side has one of pairwise disjoint closed
--- squares: so the sides of disjoint labels are those up to that supremum, which is the greatest of them. Sides are fractions.
+-- squares." Sides are fractions p/q, p and q from 1. For distinct places, such a fraction is the greatest side at which labels can be
+-- placed pairwise disjoint exactly when it is the supremum of the sides at which closed squares can (`greatest-supremum`). That there
+-- is such a fraction is not said here.
 -- Assumes nothing.
 use mathlib.Core.List.{List}
 use mathlib.Core.Logic.{_≢_, _↔_}
 use Prim.Native.Nat.{ℕ, _+_, _-_, _*_, _≤_, _<_}
 use native.Mathlib.Nat.{mul-le-mul-right, mul-lt-mul-of-pos-right, lt-of-mul-lt-mul-right}
+use native.Mathlib.Decide.{decLe}
 use native.Mathlib.Omega.{arith}
 use lib.ListN.{length}
 use Rattle.placing.specs.declared.units.Place.{Place}
@@ -38,6 +40,36 @@ pub record Placeable (Region : Place → ℕ → Point → Type 0) (ps : List Pl
   pub choice : List ℕ
   pub corners : Corners (length ps) choice
   pub disjoint : Disjoint Region ps choice
+
+-- The sides at which labels, and at which closed squares, can be placed pairwise disjoint.
+abbrev pub LabelsFit : List Place → (p q : ℕ) → Type 0
+LabelsFit ps p q = Placeable (Covers p q) ps
+
+abbrev pub SquaresFit : List Place → (p q : ℕ) → Type 0
+SquaresFit ps p q = Placeable (InSquare p q) ps
+
+-- No side with the property is greater than p/q.
+pub record UpperBound (Has : (p q : ℕ) → Type 0) (p q : ℕ) : Type 0 where
+  pub none-greater : (p′ q′ : ℕ) → 1 ≤ p′ → 1 ≤ q′ → Has p′ q′ → p′ * q ≤ p * q′
+
+-- Some side with the property is greater than p/q.
+pub record Exceeded (Has : (p q : ℕ) → Type 0) (p q : ℕ) : Type 0 where
+  pub over : ℕ
+  pub under : ℕ
+  pub some-over : 1 ≤ over
+  pub some-under : 1 ≤ under
+  pub has : Has over under
+  pub greater : p * under < over * q
+
+-- p/q is the greatest side with the property.
+pub record Greatest (Has : (p q : ℕ) → Type 0) (p q : ℕ) : Type 0 where
+  pub has : Has p q
+  pub bound : UpperBound Has p q
+
+-- p/q is the supremum of the sides with the property: an upper bound, and every smaller fraction is below a side with the property.
+pub record Supremum (Has : (p q : ℕ) → Type 0) (p q : ℕ) : Type 0 where
+  pub bound : UpperBound Has p q
+  pub least : (p′ q′ : ℕ) → 1 ≤ q′ → p′ * q < p * q′ → Exceeded Has p′ q′
 
 -- What lies within a label along an axis lies in its closed square there.
 within-reaches : (p q : ℕ) (d : Direction) (a : ℕ) (t : Fraction) → Within p q d a t → Reaches p q d a t
@@ -139,3 +171,77 @@ module _ (p q : ℕ) (some-p : 1 ≤ p) (some-q : 1 ≤ q) where
         where
           less-by-half : (2 * p - 1) * q < p * (2 * q)
           less-by-half = let less : (2 * p - 1) * q < 2 * p * q = mul-lt-mul-of-pos-right (omega arith) some-q in omega arith
+
+-- Labels can be placed where closed squares of their side can.
+squares-fit-labels : {ps : List Place} {p q : ℕ} → 1 ≤ p → SquaresFit ps p q → LabelsFit ps p q
+squares-fit-labels some squares =
+    record {
+      choice = squares .choice;
+      corners = squares .corners;
+      disjoint = record {
+        disjoint = λ i j i-listed j-listed differ point one other.
+            squares .disjoint .disjoint i j i-listed j-listed differ point (covers-in-square some one) (covers-in-square some other);
+      };
+    }
+
+-- Where labels can be placed, closed squares of every smaller side can.
+labels-fit-squares : {ps : List Place} (p q p′ q′ : ℕ) → Distinct ps → 1 ≤ p → 1 ≤ q → 1 ≤ q′ → p′ * q < p * q′ → LabelsFit ps p q
+    → SquaresFit ps p′ q′
+labels-fit-squares p q p′ q′ places some-p some-q some-parts smaller labels =
+    labels-up-to-supremum p q some-p some-q places .0 labels p′ q′ some-parts smaller
+
+-- Between two fractions lies (p + p′)/(q + q′): the greatest side of labels is the supremum of the sides of closed squares ..
+greatest-to-supremum : {ps : List Place} (p q : ℕ) → Distinct ps → 1 ≤ p → 1 ≤ q → Greatest (LabelsFit ps) p q
+    → Supremum (SquaresFit ps) p q
+greatest-to-supremum {ps} p q places some-p some-q greatest = record { bound = bound; least = least }
+  where
+    bound : UpperBound (SquaresFit ps) p q
+    bound =
+        record {
+          none-greater = λ p′ q′ some-p′ some-q′ squares.
+              greatest .bound .none-greater p′ q′ some-p′ some-q′ (squares-fit-labels some-p′ squares);
+        }
+
+    least : (p′ q′ : ℕ) → 1 ≤ q′ → p′ * q < p * q′ → Exceeded (SquaresFit ps) p′ q′
+    least p′ q′ some-q′ smaller =
+        record {
+          over = p + p′;
+          under = q + q′;
+          some-over = omega arith;
+          some-under = omega arith;
+          has = labels-fit-squares p q (p + p′) (q + q′) places some-p some-q (omega arith) (omega arith) (greatest .has);
+          greater = omega arith;
+        }
+
+-- .. and the other way round.
+supremum-to-greatest : {ps : List Place} (p q : ℕ) → Distinct ps → 1 ≤ p → 1 ≤ q → Supremum (SquaresFit ps) p q
+    → Greatest (LabelsFit ps) p q
+supremum-to-greatest {ps} p q places some-p some-q supremum = record { has = has; bound = record { none-greater = none-greater } }
+  where
+    has : LabelsFit ps p q
+    has =
+        labels-up-to-supremum p q some-p some-q places .1
+        (λ p′ q′ some-q′ smaller. below p′ q′ some-q′ (supremum .least p′ q′ some-q′ smaller))
+      where
+        below : (p′ q′ : ℕ) → 1 ≤ q′ → Exceeded (SquaresFit ps) p′ q′ → SquaresFit ps p′ q′
+        below p′ q′ some-q′ side =
+            labels-fit-squares (side .over) (side .under) p′ q′ places (side .some-over) (side .some-under) some-q′ (side .greater)
+            (squares-fit-labels (side .some-over) (side .has))
+
+    none-greater : (p′ q′ : ℕ) → 1 ≤ p′ → 1 ≤ q′ → LabelsFit ps p′ q′ → p′ * q ≤ p * q′
+    none-greater p′ q′ some-p′ some-q′ labels = go (decLe (p′ * q) (p * q′))
+      where
+        go : Dec (p′ * q ≤ p * q′) → p′ * q ≤ p * q′
+        go (yes within) = within
+        go (no beyond) =
+            let between : SquaresFit ps (p + p′) (q + q′) =
+            labels-fit-squares p′ q′ (p + p′) (q + q′) places some-p′ some-q′ (omega arith) (omega arith) labels in
+            let within = supremum .bound .none-greater (p + p′) (q + q′) (omega arith) (omega arith) between in
+            omega arith
+
+-- p/q is the greatest side at which labels can be placed pairwise disjoint exactly when it is the supremum of the sides at which closed
+-- squares can.
+pub greatest-supremum : {ps : List Place} (p q : ℕ) → Distinct ps → 1 ≤ p → 1 ≤ q
+    → Greatest (LabelsFit ps) p q ↔ Supremum (SquaresFit ps) p q
+greatest-supremum p q places some-p some-q =
+    (greatest-to-supremum p q places some-p some-q, supremum-to-greatest p q places some-p some-q)

@@ -17,7 +17,7 @@ walk-requires c κs =
       held = may .held;
       sizes = at-fresh .fresh-state .ensures .sizes;
       room = may .room;
-      walked = walk-starts (at-fresh .fresh-state .ensures .fresh _ _ (may .held .judged) (may .crowding-is));
+      walked = walk-starts (at-fresh .fresh-state .ensures .fresh _ _ (may .inside) (may .crowding-is));
     }
 
 same-length : tie.Need-same-length

@@ -3,7 +3,8 @@
 use Prim.Native.Nat.{_≤_, _-_}
 use native.Mathlib.Omega.{arith}
 use mathlib.Core.Path.{refl}
-use Rattle.placing.specs.code.Sites.{sitesOf}
+use borrow.Author.Needs.{needs}
+use Rattle.placing.specs.code.Sites.{sitesOf, held-at, length-sites}
 use Rattle.placing.specs.code.Crowding.{CrowdingBelow, crowding-none, crowding-more, crowding-all}
 use Rattle.placing.proofs.crowding.crowding_of.Statement.{statement}
 use Rattle.placing.proofs.crowding.crowding_of.Tie as tie
@@ -15,10 +16,15 @@ abbrev μ-loop : tie.MeasureT-loop
 μ-loop xs ys n crowding₀ i₀ crowding i = n - i
 
 loop-holds : tie.Need-loop-holds Inv-loop μ-loop
-loop-holds c = (omega arith, crowding-none refl refl refl refl)
+loop-holds c = (omega arith, crowding-none refl refl refl refl (omega arith))
 
 reaches-of-requires : tie.Need-reaches-of-requires Inv-loop μ-loop
-reaches-of-requires c κs = (c .before .before .pre, c .loop-test .taken)
+reaches-of-requires c κs =
+    let at-loop = c .before in
+    (held-at _ (at-loop .loop .inv .1 .reaches .judged) (at-loop .before .pre), c .loop-test .taken)
+
+top-of-requires : tie.Need-top-of-requires Inv-loop μ-loop
+top-of-requires c κs = search needs
 
 with-site-requires : tie.Need-with-site-requires Inv-loop μ-loop
 with-site-requires c κs = omega arith
@@ -31,9 +37,15 @@ loop-less c = omega arith
 
 loop-again : tie.Need-loop-again Inv-loop μ-loop
 loop-again c =
-    let found = c .before in (
+    let at-top = c .before in
+    let found = at-top .before in
+    let at-loop = found .before .before in
+    let asked = at-loop .before .args in
+    let count = length-sites (asked .n) (asked .xs .now) (asked .ys .now) in (
       omega arith,
-      rw (c .with-site .ensures) (crowding-more (omega arith) (found .before .before .loop .inv .1) (found .reaches-of .ensures)),
+      rw (c .with-site .ensures)
+          (crowding-more (omega arith) (omega arith) (at-loop .loop .inv .1) (found .reaches-of .ensures .0) (found .reaches-of .ensures .1)
+          (at-top .top-of .ensures)),
     )
 
 returns : tie.Need-returns Inv-loop μ-loop
@@ -47,6 +59,7 @@ crowding-of-spec =
     μ-loop
     loop-holds
     reaches-of-requires
+    top-of-requires
     with-site-requires
     add-i
     loop-less

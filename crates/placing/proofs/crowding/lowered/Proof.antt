@@ -2,7 +2,7 @@
 -- Assumes nothing.
 use native.Mathlib.Omega.{arith}
 use borrow.Author.Needs.{needs}
-use Rattle.placing.specs.code.Crowding.{lowered-far, lowered-there, lowered-elsewhere}
+use Rattle.placing.specs.code.Reach.{lowered-far, lowered-there, lowered-elsewhere}
 use Rattle.placing.proofs.crowding.lowered.Statement.{statement}
 use Rattle.placing.proofs.crowding.lowered.Tie as tie
 

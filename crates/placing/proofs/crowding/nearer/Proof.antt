@@ -1,7 +1,7 @@
 -- `crowding::nearer` meets its contract: each call gives the reach of one corner.
 -- Assumes nothing.
 use borrow.Author.Needs.{needs}
-use Rattle.placing.specs.code.Crowding.{reachOf, Lowered, each-corner}
+use Rattle.placing.specs.code.Reach.{reachOf, Lowered, each-corner}
 use Rattle.placing.specs.declared.crowding.Reaches.{Reaches}
 use Rattle.placing.proofs.crowding.nearer.Statement.{statement}
 use Rattle.placing.proofs.crowding.nearer.Tie as tie

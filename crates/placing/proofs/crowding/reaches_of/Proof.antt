@@ -4,15 +4,15 @@ use Prim.Native.Nat.{_≤_, _-_}
 use native.Mathlib.Omega.{arith}
 use borrow.Author.Needs.{needs}
 use Rattle.placing.specs.code.Sites.{sitesOf, length-sites, held-place}
-use Rattle.placing.specs.code.Crowding.{SiteAmong, site-none, site-more, site-all}
+use Rattle.placing.specs.code.Reach.{SiteAmong, site-within, site-none, site-more, site-all}
 use Rattle.placing.proofs.crowding.reaches_of.Statement.{statement}
 use Rattle.placing.proofs.crowding.reaches_of.Tie as tie
 
 abbrev Inv-loop : tie.InvT-loop
-Inv-loop xs ys n i s reaches₀ j₀ reaches j = (j ≤ n) × SiteAmong (sitesOf n xs ys) i j reaches
+Inv-loop xs ys n i top s reaches₀ j₀ reaches j = (j ≤ n) × SiteAmong (sitesOf n xs ys) (top .0) i j reaches
 
 abbrev μ-loop : tie.MeasureT-loop
-μ-loop xs ys n i s reaches₀ j₀ reaches j = n - j
+μ-loop xs ys n i top s reaches₀ j₀ reaches j = n - j
 
 mul-place-of : tie.Need-mul-place-of Inv-loop μ-loop
 mul-place-of c = omega arith
@@ -58,10 +58,14 @@ passed-requires c κs =
     let held = start .pre .0 in (
       rw (place .place-of .ensures) (held-place held (start .pre .1) .on-plan),
       rw (c .place-of2 .ensures) (held-place held (turn .loop-test .taken) .on-plan),
+      record { judged = held .judged },
+      site-within (turn .before .loop .inv .1),
     )
 
 add-j : tie.Need-add-j Inv-loop μ-loop
-add-j c = omega arith
+add-j c =
+    let start = c .before .before .before .before .before .before .before .before .before .before in
+    omega (arith, start .pre .0 .few)
 
 loop-less : tie.Need-loop-less Inv-loop μ-loop
 loop-less c = omega arith
@@ -72,15 +76,17 @@ loop-again c =
     let place = turn .before .before .before in
     let start = place .before .before .before in (
       omega arith,
-      site-more (start .args .xs .now) (start .args .ys .now) (start .pre .1) (turn .loop-test .taken) (turn .before .loop .inv .1)
+      site-more (start .args .xs .now) (start .args .ys .now) (start .pre .0 .judged) (start .pre .1) (turn .loop-test .taken) (turn .before .loop .inv .1)
           (rw (← place .place-of .ensures, ← c .before .place-of2 .ensures) (c .passed .ensures)),
     )
 
 returns : tie.Need-returns Inv-loop μ-loop
 returns c =
     let at-loop = c .before in
-    let asked = at-loop .before .before .before .before .before .args in
-    site-all (omega (arith, length-sites (asked .n) (asked .xs .now) (asked .ys .now))) (at-loop .loop .inv .1)
+    let asked = at-loop .before .before .before .before .before .args in (
+      site-all (omega (arith, length-sites (asked .n) (asked .xs .now) (asked .ys .now))) (at-loop .loop .inv .1),
+      site-within (at-loop .loop .inv .1),
+    )
 
 pub reaches-of-spec : {M : Type 1} → statement M
 reaches-of-spec =

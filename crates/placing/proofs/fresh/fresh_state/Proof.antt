@@ -8,11 +8,10 @@ use Rattle.placing.proofs.fresh.fresh_state.Statement.{statement}
 use Rattle.placing.proofs.fresh.fresh_state.Tie as tie
 
 abbrev Inv-loop : tie.InvT-loop
-Inv-loop n side first second third fourth ways₀ i₀ ways i =
-    (i ≤ n) × OpenedBelow (record { first = first; second = second; third = third; fourth = fourth }) (side .0) i ways
+Inv-loop n side crowding ways₀ i₀ ways i = (i ≤ n) × OpenedBelow crowding (side .0) i ways
 
 abbrev μ-loop : tie.MeasureT-loop
-μ-loop n side first second third fourth ways₀ i₀ ways i = n - i
+μ-loop n side crowding ways₀ i₀ ways i = n - i
 
 loop-holds : tie.Need-loop-holds Inv-loop μ-loop
 loop-holds c = (omega arith, opened-none refl)
@@ -20,26 +19,26 @@ loop-holds c = (omega arith, opened-none refl)
 mul-open-row : tie.Need-mul-open-row Inv-loop μ-loop
 mul-open-row c = omega arith
 
-array-copy-out-open-row : tie.Need-array-copy-out-open-row Inv-loop μ-loop
-array-copy-out-open-row c = omega arith
+element-copy-out-open-row : tie.Need-element-copy-out-open-row Inv-loop μ-loop
+element-copy-out-open-row c = omega arith
 
 mul-open-row-2 : tie.Need-mul-open-row-2 Inv-loop μ-loop
 mul-open-row-2 c = omega arith
 
-array-copy-out-open-row-2 : tie.Need-array-copy-out-open-row-2 Inv-loop μ-loop
-array-copy-out-open-row-2 c = omega arith
+element-copy-out-open-row-2 : tie.Need-element-copy-out-open-row-2 Inv-loop μ-loop
+element-copy-out-open-row-2 c = omega arith
 
 mul-open-row-3 : tie.Need-mul-open-row-3 Inv-loop μ-loop
 mul-open-row-3 c = omega arith
 
-array-copy-out-open-row-3 : tie.Need-array-copy-out-open-row-3 Inv-loop μ-loop
-array-copy-out-open-row-3 c = omega arith
+element-copy-out-open-row-3 : tie.Need-element-copy-out-open-row-3 Inv-loop μ-loop
+element-copy-out-open-row-3 c = omega arith
 
 mul-open-row-4 : tie.Need-mul-open-row-4 Inv-loop μ-loop
 mul-open-row-4 c = omega arith
 
-array-copy-out-open-row-4 : tie.Need-array-copy-out-open-row-4 Inv-loop μ-loop
-array-copy-out-open-row-4 c = omega arith
+element-copy-out-open-row-4 : tie.Need-element-copy-out-open-row-4 Inv-loop μ-loop
+element-copy-out-open-row-4 c = omega arith
 
 open-row-requires : tie.Need-open-row-requires Inv-loop μ-loop
 open-row-requires c κs = omega arith
@@ -58,7 +57,7 @@ loop-again c =
 returns : tie.Need-returns Inv-loop μ-loop
 returns c =
     let at-end = c .before in
-    let start = at-end .before .before .before .before .before in
+    let start = at-end .before in
     let all : at-end .loop .i ≡ start .args .n = omega arith in
     fresh-all (start .pre .0) (rw all at (at-end .loop .inv .1))
 
@@ -70,13 +69,13 @@ fresh-state-spec =
     μ-loop
     loop-holds
     mul-open-row
-    array-copy-out-open-row
+    element-copy-out-open-row
     mul-open-row-2
-    array-copy-out-open-row-2
+    element-copy-out-open-row-2
     mul-open-row-3
-    array-copy-out-open-row-3
+    element-copy-out-open-row-3
     mul-open-row-4
-    array-copy-out-open-row-4
+    element-copy-out-open-row-4
     open-row-requires
     add-i
     loop-less

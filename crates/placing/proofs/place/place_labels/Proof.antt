@@ -6,8 +6,9 @@ use Prim.Native.Nat.{ℕ, _*_, _≤_}
 use native.Mathlib.Nat.{mul-le-mul-right}
 use native.Mathlib.Omega.{arith}
 use lib.ListN.{replicate}
+use Rattle.placing.specs.declared.side.Placed.{Placed}
 use Rattle.placing.specs.declared.units.Place.{Place}
-use Rattle.placing.specs.rules.Answer.{answerOf}
+use Rattle.placing.specs.rules.Answer.{answerOf, sideNumber}
 use Rattle.placing.specs.code.Marks.{kept-further}
 use Rattle.placing.specs.rules.Placing.{placedAs}
 use Rattle.placing.specs.code.Placed.{may-find}
@@ -39,11 +40,16 @@ returns c =
     let at-start-coordinates = at-find .before .before .before .before .before .before in
     let at-start = at-start-coordinates .before .before in
     let n = at-start .args .n in
-    let wide : 1 * n ≤ n * n = mul-le-mul-right n (at-start .pre .some-sites) in (
-      at-find .find-answer .ensures .0
-          ∙ ap (λ (l : List Place). placedAs (answerOf l)) (at-start-coordinates .coordinates-of .ensures .same-sites),
-      at-clear .clear .ensures
-          ∙ ap (λ (l : List ℕ). replicate (n * n) 0 ++ l) (kept-further (n * n) (omega arith) (at-find .find-answer .ensures .1)),
+    let wide : 1 * n ≤ n * n = mul-le-mul-right n (at-start .pre .some-sites) in
+    let answer =
+    at-find .find-answer .ensures .0
+    ∙ ap (λ (l : List Place). placedAs (answerOf l)) (at-start-coordinates .coordinates-of .ensures .same-sites) in (
+      answer,
+      (
+        ap (λ (r : Placed). sideNumber (r .side)) answer,
+        at-clear .clear .ensures
+            ∙ ap (λ (l : List ℕ). replicate (n * n) 0 ++ l) (kept-further (n * n) (omega arith) (at-find .find-answer .ensures .1)),
+      ),
     )
 
 pub place-labels-spec : {M : Type 1} → statement M

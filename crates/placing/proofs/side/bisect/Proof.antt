@@ -1,11 +1,10 @@
--- `placing::side::bisect` meets its contract: the lower end has a good choice and the upper one has none, until they are one apart.
+-- `placing::side::bisect` meets its contract: the lower end has a good choice and the upper one has none, until nothing is left to try.
 -- Assumes nothing.
 use mathlib.Core.Path.{_∙_}
 use Prim.Native.Nat.{_-_}
 use native.Mathlib.Omega.{arith}
 use borrow.Author.Needs.{needs}
 use Rattle.placing.specs.code.Sites.{sitesOf, length-sites}
-use Rattle.placing.specs.declared.units.Side.the-variants.{Number}
 use Rattle.placing.specs.code.Ways.{Kept}
 use Rattle.placing.specs.code.Marks.{kept-same, kept-twice}
 use Rattle.placing.specs.code.Bisect.{BetweenIs, between-starts, between-ends}
@@ -14,52 +13,56 @@ use Rattle.placing.proofs.side.bisect.Tie as tie
 
 abbrev Inv-loop : tie.InvT-loop
 Inv-loop xs ys n crowding marks₀ between₀ marks between =
-    Kept n marks₀ marks × BetweenIs (sitesOf n xs ys) n between
+    Kept n marks₀ marks × BetweenIs (sitesOf n xs ys) n (crowding .top .0) between
 
 abbrev μ-loop : tie.MeasureT-loop
 μ-loop xs ys n crowding marks₀ between₀ marks between = between .high .0 - between .low .0
 
+add-t11 : tie.Need-add-t11 Inv-loop μ-loop
+add-t11 c = search needs
+
 loop-holds : tie.Need-loop-holds Inv-loop μ-loop
 loop-holds c =
-    let may = c .before .pre in
-    (kept-same, between-starts (may .distinct) (length-sites _ _ _) (may .held .few) (may .not-free))
+    let may = c .before .before .before .pre in
+    (kept-same, between-starts _ (may .distinct) (length-sites _ _ _) (may .held .few) (may .crowding-is .none-above))
 
-add-if1 : tie.Need-add-if1 Inv-loop μ-loop
-add-if1 c = omega arith
-
-halve-requires : tie.Need-halve-requires Inv-loop μ-loop
-halve-requires c κs =
-    let at-loop = c .before .before .before .before in
-    let may = at-loop .before .before .pre in
+narrow-requires : tie.Need-narrow-requires Inv-loop μ-loop
+narrow-requires c κs =
+    let at-loop = c .before .before .before in
+    let may = at-loop .before .before .before .before .pre in
     record {
       held = may .held;
       room = rw (at-loop .loop .inv .0 .size) (may .room);
       crowding-is = may .crowding-is;
       between-is = at-loop .loop .inv .1;
-      wide = omega arith;
+      left = omega arith;
     }
 
 loop-less : tie.Need-loop-less Inv-loop μ-loop
-loop-less c = c .before .before .halve .ensures .0 .less
+loop-less c = c .before .before .narrow .ensures .0 .less
 
 loop-again : tie.Need-loop-again Inv-loop μ-loop
 loop-again c =
-    let at-halve = c .before .before in
-    let at-loop = at-halve .before .before .before .before .before in
-    (kept-twice (at-loop .loop .inv .0) (at-halve .halve .ensures .1), at-halve .halve .ensures .0 .between-is)
+    let at-narrow = c .before .before in
+    let at-loop = at-narrow .before .before .before .before in
+    (kept-twice (at-loop .loop .inv .0) (at-narrow .narrow .ensures .1), at-narrow .narrow .ensures .0 .between-is)
 
 first-corners-requires : tie.Need-first-corners-requires Inv-loop μ-loop
 first-corners-requires c κs = search needs
+
+side-of-requires : tie.Need-side-of-requires Inv-loop μ-loop
+side-of-requires c κs = search needs
 
 same-length : tie.Need-same-length Inv-loop μ-loop
 same-length c = search needs
 
 returns : tie.Need-returns Inv-loop μ-loop
 returns c =
-    let at-loop = c .before .before .before .before .before .before in
-    let may = at-loop .before .before .pre in (
-      (λ k. record { side = Number (at-loop .loop .between .low); corners = c .first-corners .ensures k })
-          ∙ between-ends (may .distinct) (length-sites _ _ _) (at-loop .loop .inv .1) (omega arith),
+    let at-end = c .before .before .before in
+    let at-loop = at-end .before .before in
+    let may = at-loop .before .before .before .before .pre in (
+      (λ k. record { side = c .side-of .result; corners = c .before .first-corners .ensures k })
+          ∙ between-ends (may .crowding-is .judged) (may .distinct) (length-sites _ _ _) (at-loop .loop .inv .1) (omega arith) (c .side-of .ensures),
       at-loop .loop .inv .0,
     )
 
@@ -69,11 +72,12 @@ bisect-spec =
     (tie.spec
     Inv-loop
     μ-loop
+    add-t11
     loop-holds
-    add-if1
-    halve-requires
+    narrow-requires
     loop-less
     loop-again
     first-corners-requires
+    side-of-requires
     same-length
     returns)

@@ -1,88 +1,140 @@
--- The three demands of document 01, in its order: the whole claim on what a list gives. The contract of output cites all of it,
--- that of write demand 3 and the list of demand 2. Each call that can refuse states its answer, and the number of it, as an equation
--- with a definition of Calls: enterNumber, readNumber, placeNumber, askSideNumber, askCornerNumber, writeNumber.
+-- The three demands: the whole claim, on one page. The contract of every call that can refuse, or writes, cites its part of it.
 -- Assumes nothing.
 use mathlib.Core.Path.{_≡_}
-use mathlib.Core.List.{List, []}
+use mathlib.Core.List.{List, [], _++_}
 use mathlib.Core.Option.{some}
-use Prim.Native.Nat.{ℕ, _*_, _≤_, _<_}
+use Prim.Native.Nat.{ℕ, _+_, _*_, _≤_, _<_}
 use lib.ListN.{length, take}
 use Rattle.placing.specs.rules.Corners.{Corners}
 use Rattle.placing.specs.rules.Choice.{MeetingPair}
-use Rattle.placing.specs.rules.Answer.{Answer, answerOf, IsAnswer}
+use Rattle.placing.specs.rules.Answer.{Answer, sideNumber, IsAnswer}
+use Rattle.plan.specs.declared.plan.AskedCorner.{AskedCorner}
+use Rattle.plan.specs.declared.plan.AskedSide.{AskedSide}
+use Rattle.plan.specs.declared.plan.Plan.{Plan}
+use Rattle.plan.specs.declared.plan.Planned.{Planned}
 use Rattle.plan.specs.declared.plan.Written.{Written}
 use Rattle.plan.specs.declared.plan.Written.the-variants.{Bytes, NotWritten}
+use Rattle.plan.specs.rules.Text.{firstLine}
 use Rattle.plan.specs.rules.Site.{Site, placesOf}
 use Rattle.plan.specs.rules.Enter.{accepted}
 use Rattle.plan.specs.rules.List.{readList, listText}
-use Rattle.plan.specs.rules.Sheet.{sheetWith, sheetOf}
-use Rattle.plan.specs.rules.Calls.{readNumber, sideNumber}
+use Rattle.plan.specs.rules.Sheet.{sheetWith}
+use Rattle.plan.specs.rules.Plan.{unplaced, placed, sitesIn}
+use Rattle.plan.specs.rules.Calls.{outcomeNumber, sideAskedNumber, cornerAskedNumber, writtenNumber}
+use Rattle.plan.specs.rules.Calls.{started, enterNumber, lineNumber, placeNumber, askSideNumber, askCornerNumber, writeNumber}
 use Rattle.plan.specs.rules.ReadOff.{numberOn, spotsOn, carried}
 use Rattle.plan.specs.rules.Output.{numberLine, outputOf}
 
--- A list that is accepted, and has these sites.
+-- ---- demand 1: bad input is refused first, by its number, with plan and lent buffers as they were; all else ends in an answer
+
+-- A call gives the number of the first of its tests that fails, and 0 where none does. "A refusal hands back its number, the plan as
+-- it came, and every lent byte as it came."
+pub record Refuses {Given : Type 0} (given number : ℕ) (before after : Given) : Type 0 where
+  pub number-is : given ≡ number
+  pub as-it-came : (given ≡ 0 → ⊥) → after ≡ before
+
+-- Starting and counting refuse nothing. "Entering tests 2, 3, 7, 4, 5."
+abbrev pub EnterTold : Plan → List ℕ → (x y : ℕ) → Planned → Type 0
+EnterTold plan name x y r = Refuses (outcomeNumber (r .outcome)) (enterNumber (sitesIn plan) name x y) plan (r .plan)
+
+-- "Placing tests 8, 11": it is given a plan and a work table.
+abbrev pub PlaceTold : Plan → List ℕ → Planned → List ℕ → Type 0
+PlaceTold plan table r after =
+    Refuses {Given = Plan × List ℕ} (outcomeNumber (r .outcome)) (placeNumber plan table) (plan, table) (r .plan, after)
+
+-- Asking the side tests 9; it is lent nothing, and the plan stays with the caller.
+abbrev pub SideTold : Plan → AskedSide → Type 0
+SideTold plan r = sideAskedNumber r ≡ askSideNumber plan
+
+-- "Asking a corner tests 9, 6."
+abbrev pub CornerTold : Plan → ℕ → AskedCorner → Type 0
+CornerTold plan i r = cornerAskedNumber r ≡ askCornerNumber plan i
+
+-- "Writing tests 9, 10": it is lent a buffer.
+abbrev pub WriteTold : Plan → List ℕ → Written → List ℕ → Type 0
+WriteTold plan buffer r after = Refuses (writtenNumber r) (writeNumber plan buffer) buffer after
+
+-- "Reading does so line after line with 1 before 2, and stops at the first refused line." Counted from 1, that is the line behind
+-- those of the sites before it, which are accepted; its number is that of the first test that fails there.
+pub record FirstRefused (text : List ℕ) (number : ℕ) : Type 0 where
+  pub line : ℕ
+  pub before : List Site
+  pub rest : List ℕ
+  pub line-is : line ≡ length before + 1
+  pub parts : text ≡ listText before ++ rest
+  pub accepted-before : readList (listText before) ≡ accepted before
+  pub some-rest : 1 ≤ length rest
+  pub some-number : 1 ≤ number
+  pub number-is : number ≡ lineNumber before (firstLine rest)
+
+-- A list of which every line is accepted: the plan has a site for each.
+pub record AllRead (text : List ℕ) (plan : Plan) : Type 0 where
+  pub sites : List Site
+  pub read : readList text ≡ accepted sites
+  pub every-line : listText sites ≡ text
+  pub plan-is : plan ≡ unplaced sites
+
+-- "Reading is all or nothing": refused, it "hands back an empty plan".
+pub data ReadTold (text : List ℕ) (r : Planned) : Type 0 where
+  read-refused : FirstRefused text (outcomeNumber (r .outcome)) → r .plan ≡ started → ReadTold text r
+  read-all : AllRead text (r .plan) → outcomeNumber (r .outcome) ≡ 0 → ReadTold text r
+
+-- A list that is accepted and has some sites.
 pub record Accepts (text : List ℕ) (sites : List Site) : Type 0 where
   pub read : readList text ≡ accepted sites
   pub some-sites : 1 ≤ length sites
 
--- Demand 1: "for each input, refused ones too, precisely which value comes back". Every text has its answer, and "no refusal is
--- given outside its condition":
-pub record Answered (text output : List ℕ) : Type 0 where
-  -- a list with a refused line gives the number of the first such line,
-  pub line-refused : (readNumber text ≡ 0 → ⊥) → output ≡ numberLine (readNumber text)
-  -- a list of no sites gives 8,
-  pub none-refused : readList text ≡ accepted [] → output ≡ numberLine 8
-  -- and every other list gives the sheet of its sites.
-  pub accepts : (sites : List Site) → Accepts text sites → output ≡ sheetOf sites
+-- Every other list is refused, with a number: that of its first refused line, or 8. "An empty text is a list of no sites."
+pub data ListRefused (text : List ℕ) : ℕ → Type 0 where
+  at-line : {number : ℕ} → FirstRefused text number → ListRefused text number
+  no-sites : text ≡ [] → ListRefused text 8
 
--- Demand 2: the sheet for an accepted list.
-pub record Right (text : List ℕ) (sites : List Site) (sheet : List ℕ) : Type 0 where
-  -- It prints the answer: "free, with the first good choice at 20,001. Otherwise it is the greatest h that has a good choice, with
-  -- the first good choice there."
-  pub answer : Answer
-  pub is-answer : IsAnswer (placesOf sites) answer
-  pub prints : sheet ≡ sheetWith sites answer
-  -- "Leaving out the first line and, of each other line, the last field with the tab before it gives the list back",
-  pub carries : carried sheet ≡ text
-  -- which gives the same sheet again.
-  pub again : outputOf (carried sheet) ≡ sheet
+-- Reading a list and placing it.
+pub data ListTold (text : List ℕ) (r : Planned) : Type 0 where
+  list-refused : ListRefused text (outcomeNumber (r .outcome)) → r .plan ≡ started → ListTold text r
+  list-placed : (sites : List Site) → Accepts text sites → outcomeNumber (r .outcome) ≡ 0 → r .plan ≡ placed sites → ListTold text r
 
--- Demand 3: "A rival is any list of corners, one for each of these lines, with any side p/q above twice the number, that is
--- p > 2 × number × q. For every rival, the labels of some two of these lines meet."
+-- ---- demand 3: at every side above twice the printed number, whole or fraction, any choice of corners has two labels that meet
+
+-- "A rival is any list of corners, one for each of these lines, with any side p/q above twice the number, that is p > 2 × number × q.
+-- For every rival, the labels of some two of these lines meet." Number and spots are read off the bytes.
 pub record NoRival (sheet : List ℕ) : Type 0 where
   pub rivals-meet : (number p q : ℕ) → numberOn sheet ≡ some number → 1 ≤ q → 2 * number * q < p
       → (corners : List ℕ) → Corners (length (spotsOn sheet)) corners → MeetingPair p q (spotsOn sheet) corners
 
--- It is about the sites: "Its number is the side it prints, its spots are the x and y on the site lines under it". On a sheet for
--- these sites the number is the side of their answer, exactly when that is a number, the spots are the places, and the list that
--- the sheet carries is theirs.
-pub record ReadsOff (sites : List Site) (sheet : List ℕ) : Type 0 where
-  pub number : numberOn sheet ≡ sideNumber (answerOf (placesOf sites) .side)
+-- ---- demands 2 and 3 of the bytes of a sheet for some sites
+
+pub record RightSheet (sites : List Site) (sheet : List ℕ) : Type 0 where
+  -- Demand 2: it prints the answer: "free, with the first good choice at 20,001. Otherwise it is the greatest h that has a good
+  -- choice, with the first good choice there."
+  pub answer : Answer
+  pub is-answer : IsAnswer (placesOf sites) answer
+  pub prints : sheet ≡ sheetWith sites answer
+  -- "Its number is the side it prints", exactly when that is a number, "its spots are the x and y on the site lines under it".
+  pub number : numberOn sheet ≡ sideNumber (answer .side)
   pub spots : spotsOn sheet ≡ placesOf sites
+  -- "Leaving out the first line and, of each other line, the last field with the tab before it gives the list back",
   pub list : carried sheet ≡ listText sites
+  -- which, read again, gives the same sheet.
+  pub again : outputOf (carried sheet) ≡ sheet
+  -- Demand 3.
+  pub no-rival : NoRival sheet
 
--- The three of the output for a text.
-pub record Demanded (text output : List ℕ) : Type 0 where
-  pub answered : Answered text output
-  pub right : (sites : List Site) → Accepts text sites → Right text sites output
-  pub no-rival : (sites : List Site) → Accepts text sites → NoRival output
-  pub reads-off : (sites : List Site) → Accepts text sites → ReadsOff sites output
+-- "The sheet is what an accepted writing leaves in the buffer, from its first byte up to the length it gives."
+abbrev pub SheetWritten : List Site → Written → List ℕ → Type 0
+SheetWritten sites (Bytes n) buffer = RightSheet sites (take n buffer)
+SheetWritten sites (NotWritten why) buffer = Unit {0}
 
--- ---- of "what an accepted writing leaves in the buffer, from its first byte up to the length it gives"
+-- ---- from a list to its output: all three
 
--- Something that holds of the bytes written, where some are.
-abbrev pub InBuffer : (List ℕ → Type 0) → Written → List ℕ → Type 0
-InBuffer holds (Bytes n) buffer = holds (take n buffer)
-InBuffer holds (NotWritten why) buffer = Unit {0}
+-- A sheet for a list that is accepted, which it carries byte for byte.
+pub record SheetFor (text sheet : List ℕ) : Type 0 where
+  pub sites : List Site
+  pub accepts : Accepts text sites
+  pub right : RightSheet sites sheet
+  pub gives-back : carried sheet ≡ text
 
--- Demand 3 of a written sheet,
-abbrev pub NoRivalIn : Written → List ℕ → Type 0
-NoRivalIn written buffer = InBuffer NoRival written buffer
-
--- with what its number, spots and list are,
-abbrev pub ReadsOffIn : List Site → Written → List ℕ → Type 0
-ReadsOffIn sites written buffer = InBuffer (ReadsOff sites) written buffer
-
--- and all three of the output written for a text.
-abbrev pub SheetFor : List ℕ → Written → List ℕ → Type 0
-SheetFor text written buffer = InBuffer (Demanded text) written buffer
+-- Every text has its answer: the line with the number, where it is refused, else its sheet.
+pub data Answered (text output : List ℕ) : Type 0 where
+  refusal-line : {number : ℕ} → ListRefused text number → output ≡ numberLine number → Answered text output
+  list-sheet : SheetFor text output → Answered text output

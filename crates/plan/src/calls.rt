@@ -12,19 +12,19 @@ use crate::refusal::Outcome;
 use crate::refusal::Refusal;
 use placing::place::place_labels;
 ghost use mathlib.Core.Path.{_≡_};
+ghost use Rattle.placing.specs.rules.Answer.{sideNumber};
 ghost use Rattle.placing.specs.rules.Corners.{cornerAt};
-ghost use Rattle.plan.specs.rules.Plan.{sitesIn, Valid};
+ghost use Rattle.plan.specs.rules.Plan.{Valid};
 ghost use Rattle.plan.specs.rules.Calls.{enteredIn, placedIn, tableAfter, answerFor, sideAsked, cornerAsked, counted};
-ghost use Rattle.plan.specs.rules.Calls.{outcomeNumber, enterNumber, placeNumber, carriedAt};
-ghost use Rattle.plan.specs.rules.Calls.{sideAskedNumber, sideNumber, sideCarried, askSideNumber};
-ghost use Rattle.plan.specs.rules.Calls.{cornerAskedNumber, cornerCarried, askCornerNumber};
+ghost use Rattle.plan.specs.rules.Calls.{carriedAt, sideCarried, askSideNumber, cornerCarried, askCornerNumber};
+ghost use Rattle.plan.specs.Demands.{EnterTold, PlaceTold, SideTold, CornerTold};
 
 // Enters one site at the end: tests 2, 3, 7, 4, 5.
 pub fn enter(plan: Plan, name: &[u8], x: u64, y: u64) -> Planned
     requires { ⌜ Valid plan ⌝ }
     ensures answer { λ r. ⌜ r ≡ enteredIn plan (now (name .entry)) x y ⌝ }
     ensures valid { λ r. ⌜ Valid (r .plan) ⌝ }
-    ensures number { λ r. ⌜ outcomeNumber (r .outcome) ≡ enterNumber (sitesIn plan) (now (name .entry)) x y ⌝ }
+    ensures told { λ r. ⌜ EnterTold plan (now (name .entry)) x y r ⌝ }
 {
     let site_name = name_from(name);
     let site_place = place_at(coordinate_at(x), coordinate_at(y));
@@ -37,7 +37,7 @@ pub fn place(plan: Plan, table: &mut [u8]) -> Planned
     ensures answer { λ r. ⌜ r ≡ placedIn plan (now (table .entry)) ⌝ }
     ensures table { λ r. ⌜ now (table .exit) ≡ tableAfter plan (now (table .entry)) ⌝ }
     ensures valid { λ r. ⌜ Valid (r .plan) ⌝ }
-    ensures number { λ r. ⌜ outcomeNumber (r .outcome) ≡ placeNumber plan (now (table .entry)) ⌝ }
+    ensures told { λ r. ⌜ PlaceTold plan (now (table .entry)) r (now (table .exit)) ⌝ }
 {
     let n = plan.count;
     if n == 0 {
@@ -58,7 +58,7 @@ pub fn place(plan: Plan, table: &mut [u8]) -> Planned
 pub fn side(plan: Plan) -> AskedSide
     requires { ⌜ Valid plan ⌝ }
     ensures answer { λ r. ⌜ r ≡ sideAsked plan ⌝ }
-    ensures number { λ r. ⌜ sideAskedNumber r ≡ askSideNumber plan ⌝ }
+    ensures told { λ r. ⌜ SideTold plan r ⌝ }
     ensures value { λ r. ⌜ sideCarried r ≡ carriedAt (askSideNumber plan) (sideNumber (answerFor plan .side)) ⌝ }
 {
     if !plan.placed {
@@ -72,7 +72,7 @@ pub fn side(plan: Plan) -> AskedSide
 pub fn corner(plan: Plan, i: usize) -> AskedCorner
     requires { ⌜ Valid plan ⌝ }
     ensures answer { λ r. ⌜ r ≡ cornerAsked plan i ⌝ }
-    ensures number { λ r. ⌜ cornerAskedNumber r ≡ askCornerNumber plan i ⌝ }
+    ensures told { λ r. ⌜ CornerTold plan i r ⌝ }
     ensures value { λ r. ⌜ cornerCarried r ≡ carriedAt (askCornerNumber plan i) (cornerAt (answerFor plan .corners) i) ⌝ }
 {
     if !plan.placed {

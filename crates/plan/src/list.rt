@@ -16,7 +16,8 @@ ghost use lib.ListN.{length, drop};
 ghost use Rattle.plan.specs.rules.Text.{firstLine};
 ghost use Rattle.plan.specs.rules.List.{enteredFields, enteredLine};
 ghost use Rattle.plan.specs.rules.Plan.{sitesIn, Valid};
-ghost use Rattle.plan.specs.rules.Calls.{plannedOr, readFrom, outcomeNumber, readNumber};
+ghost use Rattle.plan.specs.rules.Calls.{plannedOr, readFrom};
+ghost use Rattle.plan.specs.Demands.{ReadTold};
 ghost use Rattle.plan.specs.code.Line.{lineEnd, lineRead, FieldEnd};
 
 // Where a line ends: the place of its line feed, if it has one in time.
@@ -125,7 +126,7 @@ fn read_line(plan: Plan, text: &[u8], at: usize) -> LineRead
 pub fn read(text: &[u8]) -> Planned
     ensures answer { λ r. ⌜ r ≡ readFrom (now (text .entry)) ⌝ }
     ensures valid { λ r. ⌜ Valid (r .plan) ⌝ }
-    ensures number { λ r. ⌜ outcomeNumber (r .outcome) ≡ readNumber (now (text .entry)) ⌝ }
+    ensures told { λ r. ⌜ ReadTold (now (text .entry)) r ⌝ }
 {
     let mut plan = Plan::start();
     let mut at = 0;

@@ -3,44 +3,40 @@ use crate::calls::place;
 use crate::limits::TextLimits;
 use crate::list::read;
 use crate::plan::Planned;
-use crate::plan::Written;
 use crate::put::put_byte;
 use crate::put::put_bytes;
 use crate::put::put_decimal;
 use crate::refusal::Outcome;
 use crate::refusal::Refusal;
 use crate::refusal::number_of;
-use crate::sheet::write;
+use crate::sheet::compose;
 ghost use mathlib.Core.Path.{_≡_};
-ghost use lib.ListN.{length};
+ghost use Prim.Native.Nat.{_≤_};
+ghost use lib.ListN.{length, take};
 ghost use Rattle.plan.specs.rules.List.{readList};
 ghost use Rattle.plan.specs.rules.Plan.{Valid};
-ghost use Rattle.plan.specs.rules.Calls.{outcomeNumber, writtenNumber, writtenLength, carriedAt};
-ghost use Rattle.plan.specs.rules.Output.{listPlaced, listNumber, outputOf, outputWritten, outputNumber, outputAfter, refusalWritten, refusalAfter};
-ghost use Rattle.plan.specs.Demands.{SheetFor};
+ghost use Rattle.plan.specs.rules.Calls.{filledWith};
+ghost use Rattle.plan.specs.rules.Output.{refusalLine, listPlaced, outputOf};
+ghost use Rattle.plan.specs.code.Put.{Put};
+ghost use Rattle.plan.specs.code.Refusing.{longestRefusalLine};
+ghost use Rattle.plan.specs.Demands.{ListTold, Answered};
 
-// Writes the word refused, a tab, the number and a line feed, where there is room.
-fn write_refusal(why: Refusal, buffer: &mut [u8]) -> Written
-    ensures answer { λ r. ⌜ r ≡ refusalWritten why (now (buffer .entry)) ⌝ }
-    ensures buffer { λ r. ⌜ now (buffer .exit) ≡ refusalAfter why (now (buffer .entry)) ⌝ }
+// The line of a refusal: the word refused, a tab, the number and a line feed.
+fn put_refusal(out: &mut [u8], why: Refusal) -> usize
+    requires { ⌜ longestRefusalLine ≤ length (now out) ⌝ }
+    ensures { λ r. ⌜ Put (now (out .entry)) 0 (refusalLine why) r (now (out .exit)) ⌝ }
 {
-    let mut line = [0u8; TextLimits::REFUSAL_LINE];
     let number = number_of(why);
-    let word = put_bytes(&mut line, 0, b"refused\t", 8);
-    let digits = put_decimal(&mut line, word, number as u32);
-    let n = put_byte(&mut line, digits, b'\n');
-    if buffer.len() < n {
-        return Written::NotWritten(Refusal::ShortBuffer);
-    }
-    put_bytes(buffer, 0, &line, n);
-    Written::Bytes(n)
+    let word = put_bytes(out, 0, b"refused\t", 8);
+    let digits = put_decimal(out, word, number as u32);
+    put_byte(out, digits, b'\n')
 }
 
 // The plan of a list, placed; where the list is refused or has no sites, an empty plan. It lends placing a work table of its own.
 pub fn place_list(text: &[u8]) -> Planned
     ensures answer { λ r. ⌜ r ≡ listPlaced (readList (now (text .entry))) ⌝ }
     ensures valid { λ r. ⌜ Valid (r .plan) ⌝ }
-    ensures number { λ r. ⌜ outcomeNumber (r .outcome) ≡ listNumber (readList (now (text .entry))) ⌝ }
+    ensures told { λ r. ⌜ ListTold (now (text .entry)) r ⌝ }
 {
     let listed = read(text);
     let reading = listed.outcome;
@@ -52,20 +48,17 @@ pub fn place_list(text: &[u8]) -> Planned
     place(level, &mut table)
 }
 
-// The output for a list: its sheet, or the line of its refusal.
-pub fn output(text: &[u8], buffer: &mut [u8]) -> Written
-    ensures answer { λ r. ⌜ r ≡ outputWritten (now (text .entry)) (now (buffer .entry)) ⌝ }
-    ensures buffer { λ r. ⌜ now (buffer .exit) ≡ outputAfter (now (text .entry)) (now (buffer .entry)) ⌝ }
-    ensures demands { λ r. ⌜ SheetFor (now (text .entry)) r (now (buffer .exit)) ⌝ }
-    ensures number { λ r. ⌜ writtenNumber r ≡ outputNumber (now (text .entry)) (now (buffer .entry)) ⌝ }
-    ensures value { λ r. ⌜ writtenLength r
-        ≡ carriedAt (outputNumber (now (text .entry)) (now (buffer .entry))) (length (outputOf (now (text .entry)))) ⌝ }
+// The output for a list: its sheet, or the line of its refusal, and its length. The array has room for every sheet.
+pub fn output(text: &[u8], buffer: &mut [u8; TextLimits::SHEET]) -> usize
+    ensures length { λ r. ⌜ r ≡ length (outputOf (now (text .entry))) ⌝ }
+    ensures buffer { λ r. ⌜ now (buffer .exit) ≡ filledWith (outputOf (now (text .entry))) (now (buffer .entry)) ⌝ }
+    ensures answered { λ r. ⌜ Answered (now (text .entry)) (take r (now (buffer .exit))) ⌝ }
 {
     let placed = place_list(text);
     let outcome = placed.outcome;
     if let Outcome::Refused(why) = outcome {
-        return write_refusal(why, buffer);
+        return put_refusal(buffer, why);
     }
     let plan = placed.plan;
-    write(plan, buffer)
+    compose(plan, buffer)
 }

@@ -18,11 +18,11 @@ ghost use Rattle.placing.specs.rules.Units.{OnPlan};
 ghost use Rattle.placing.specs.rules.Corner.{Corner};
 ghost use Rattle.plan.specs.rules.Sheet.{sheetOf, longestSideLine, longestSiteLine, longestSheet};
 ghost use Rattle.plan.specs.rules.Plan.{sitesIn, Valid};
-ghost use Rattle.plan.specs.rules.Calls.{written, bufferAfter, writtenNumber, writtenLength, writeNumber, carriedAt};
+ghost use Rattle.plan.specs.rules.Calls.{written, bufferAfter, writtenLength, writeNumber, carriedAt};
 ghost use Rattle.plan.specs.code.Taken.{siteOf};
 ghost use Rattle.plan.specs.code.Put.{Put};
 ghost use Rattle.plan.specs.code.SheetParts.{sideLineEnded, siteLineEnded, lineHeld, SideSmall};
-ghost use Rattle.plan.specs.Demands.{NoRivalIn, ReadsOffIn};
+ghost use Rattle.plan.specs.Demands.{SheetWritten, WriteTold};
 ghost use Rattle.plan.specs.rules.Name.{mostNameBytes};
 
 // The first line: the word side, a tab and the side.
@@ -65,7 +65,7 @@ fn put_line(plan: Plan, i: usize, out: &mut [u8], at: usize) -> usize
 }
 
 // The whole sheet of a placed plan, from the first byte on.
-fn compose(plan: Plan, out: &mut [u8]) -> usize
+pub(crate) fn compose(plan: Plan, out: &mut [u8]) -> usize
     requires { ⌜ Valid plan × (plan .placed ≡ true) × (longestSheet ≤ length (now out)) ⌝ }
     ensures { λ r. ⌜ Put (now (out .entry)) 0 (sheetOf (sitesIn plan)) r (now (out .exit)) ⌝ }
 {
@@ -82,9 +82,8 @@ pub fn write(plan: Plan, buffer: &mut [u8]) -> Written
     requires { ⌜ Valid plan ⌝ }
     ensures answer { λ r. ⌜ r ≡ written plan (now (buffer .entry)) ⌝ }
     ensures buffer { λ r. ⌜ now (buffer .exit) ≡ bufferAfter plan (now (buffer .entry)) ⌝ }
-    ensures rivals { λ r. ⌜ NoRivalIn r (now (buffer .exit)) ⌝ }
-    ensures reads { λ r. ⌜ ReadsOffIn (sitesIn plan) r (now (buffer .exit)) ⌝ }
-    ensures number { λ r. ⌜ writtenNumber r ≡ writeNumber plan (now (buffer .entry)) ⌝ }
+    ensures sheet { λ r. ⌜ SheetWritten (sitesIn plan) r (now (buffer .exit)) ⌝ }
+    ensures told { λ r. ⌜ WriteTold plan (now (buffer .entry)) r (now (buffer .exit)) ⌝ }
     ensures value { λ r. ⌜ writtenLength r ≡ carriedAt (writeNumber plan (now (buffer .entry))) (length (sheetOf (sitesIn plan))) ⌝ }
 {
     if !plan.placed {

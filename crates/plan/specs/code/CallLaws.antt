@@ -20,8 +20,8 @@ use Rattle.plan.specs.rules.Site.{Site, Listed}
 use Rattle.plan.specs.rules.Enter.{Sites, accepted, refused}
 use Rattle.plan.specs.rules.Plan.{unplaced, placed, sitesIn, sites-unplaced, Valid, is-unplaced, is-placed}
 use Rattle.plan.specs.rules.Calls.{plannedOr, placedIn, tableAfter, clearedWhere, answerFor, sideWhere, sideAsked, cornerWhere, cornerAsked}
-use Rattle.plan.specs.rules.Calls.{outcomeNumber, placeNumber}
-use Rattle.plan.specs.theorems.Numbers.{place-number}
+use Rattle.plan.specs.Demands.{PlaceTold}
+use Rattle.plan.specs.theorems.Numbers.{place-told}
 use Rattle.plan.specs.code.PlanLaws.{Holding, valid-side, valid-corner}
 
 -- ---- answers
@@ -60,38 +60,30 @@ module _ (plan : Plan) (table : List ℕ) where
       → placedIn plan table ≡ record { outcome = Done; plan = placed (sitesIn plan) }
   placed-done some room = rw (ne-eqb (plan .count) 0 some, le-ltb (length table) (plan .count * plan .count) room)
 
+  -- What is promised of placing, from the answer and the table afterwards.
+  placing-promised : {r : Planned} {left : List ℕ} → r ≡ placedIn plan table → left ≡ tableAfter plan table → Valid (r .plan)
+      → (r ≡ placedIn plan table) × ((left ≡ tableAfter plan table) × (Valid (r .plan) × PlaceTold plan table r left))
+  placing-promised is left-is valid = (is, (left-is, (valid, place-told plan table is left-is)))
+
   -- Refused, placing changes nothing.
   pub place-refuses : {why : Refusal} {r : Planned} → Valid plan → r ≡ refusal-of plan why → placedIn plan table ≡ refusal-of plan why
-      → (r ≡ placedIn plan table)
-      × ((table ≡ tableAfter plan table) × (Valid (r .plan) × (outcomeNumber (r .outcome) ≡ placeNumber plan table)))
-  place-refuses {why} {r} valid is-refused why-refused = (
-    is-refused ∙ sym why-refused,
-    (
-      sym (ap (λ (p : Planned). clearedWhere (p .outcome) (plan .count * plan .count) table) why-refused),
-      (
-        subst (λ (p : Planned). Valid (p .plan)) (sym is-refused) valid,
-        place-number plan table (is-refused ∙ sym why-refused),
-      ),
-    ),
-  )
+      → (r ≡ placedIn plan table) × ((table ≡ tableAfter plan table) × (Valid (r .plan) × PlaceTold plan table r table))
+  place-refuses {why} {r} valid is-refused why-refused =
+      placing-promised (is-refused ∙ sym why-refused)
+      (sym (ap (λ (p : Planned). clearedWhere (p .outcome) (plan .count * plan .count) table) why-refused))
+      (subst (λ (p : Planned). Valid (p .plan)) (sym is-refused) valid)
 
   -- Accepted, it hands back the placed plan and has cleared the table.
   pub place-accepts : {after : Plan} {left : List ℕ} → Holding plan (sitesIn plan) → (plan .count ≡ 0 → ⊥)
       → plan .count * plan .count ≤ length table → after ≡ placed (sitesIn plan)
       → left ≡ replicate (plan .count * plan .count) 0 ++ drop (plan .count * plan .count) table
       → (record { outcome = Done; plan = after } ≡ placedIn plan table)
-      × ((left ≡ tableAfter plan table) × (Valid after × (0 ≡ placeNumber plan table)))
+      × ((left ≡ tableAfter plan table) × (Valid after × PlaceTold plan table (record { outcome = Done; plan = after }) left))
   place-accepts {after} {left} holding some room same cleared =
-      let is-done = ap {B = Planned} (λ (p : Plan). record { outcome = Done; plan = p }) same ∙ sym (placed-done some room) in (
-        is-done,
-        (
-          cleared ∙ sym (ap (λ (p : Planned). clearedWhere (p .outcome) (plan .count * plan .count) table) (placed-done some room)),
-          (
-            subst Valid (sym same) (is-placed (sitesIn plan) (holding .listed) (omega (arith, holding .count))),
-            place-number plan table is-done,
-          ),
-        ),
-      )
+      placing-promised
+      (ap {B = Planned} (λ (p : Plan). record { outcome = Done; plan = p }) same ∙ sym (placed-done some room))
+      (cleared ∙ sym (ap (λ (p : Planned). clearedWhere (p .outcome) (plan .count * plan .count) table) (placed-done some room)))
+      (subst Valid (sym same) (is-placed (sitesIn plan) (holding .listed) (omega (arith, holding .count))))
 
 -- The plan of some sites is placed with a table that has room.
 pub unplaced-placed : (sites : List Site) (table : List ℕ) → Listed sites → 1 ≤ length sites → length sites * length sites ≤ length table

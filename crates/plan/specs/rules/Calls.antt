@@ -7,10 +7,9 @@ use Prim.Native.Nat.{ℕ, _*_}
 use lib.Dec.{leb, ltb, eqb}
 use lib.ListN.{length, drop, replicate}
 use Rattle.placing.specs.declared.units.Side.{Side}
-use Rattle.placing.specs.declared.units.Side.the-variants.{Number, Free}
 use Rattle.placing.specs.rules.Units.{greatestCoordinate, mostSites}
 use Rattle.placing.specs.rules.Corners.{cornerAt}
-use Rattle.placing.specs.rules.Answer.{Answer, answerOf}
+use Rattle.placing.specs.rules.Answer.{Answer, sideNumber, answerOf}
 use Rattle.plan.specs.declared.refusal.Outcome.{Outcome}
 use Rattle.plan.specs.declared.refusal.Outcome.the-variants.{Done, Refused}
 use Rattle.plan.specs.declared.refusal.Refusal.the-variants.{NoSuchSite, NoSites, NotPlaced, ShortBuffer, ShortTable}
@@ -44,12 +43,7 @@ abbrev pub sideAskedNumber : AskedSide → ℕ
 sideAskedNumber (SideIs side) = 0
 sideAskedNumber (NoSide why) = numberOf why
 
--- the number of half units that a side carries, where it is a number and not free,
-abbrev pub sideNumber : Side → Option ℕ
-sideNumber (Number side) = some (side .0)
-sideNumber Free = none
-
--- and what the answer carries: such a number, or free.
+-- and what the answer carries: the number of its side, or free.
 abbrev pub sideCarried : AskedSide → Option (Option ℕ)
 sideCarried (SideIs side) = some (sideNumber side)
 sideCarried (NoSide why) = none
@@ -118,10 +112,6 @@ readFrom text = plannedOr started (readList text)
 abbrev pub sitesNumber : Sites → ℕ
 sitesNumber (accepted sites) = 0
 sitesNumber (refused why) = numberOf why
-
--- Reading "stops at the first refused line", with its number: read-condition of Conditions says which line that is.
-abbrev pub readNumber : List ℕ → ℕ
-readNumber text = sitesNumber (readList text)
 
 -- The numbers of a line, as they are read: 3 where one is not written by the rule, else as entering them.
 abbrev pub enterReadNumber : List Site → List ℕ → (x y : Option ℕ) → ℕ
@@ -227,8 +217,12 @@ abbrev pub writeNumber : Plan → List ℕ → ℕ
 writeNumber plan buffer = numberIf (not (plan .placed)) 9 (numberIf (ltb (length buffer) (length (sheetOf (sitesIn plan)))) 10 0)
 
 -- "When accepted it fills the buffer from its first byte, gives the sheet's length and changes no byte after it."
+abbrev pub filledWith : List ℕ → List ℕ → List ℕ
+filledWith sheet buffer = sheet ++ drop (length sheet) buffer
+
+-- Refused, it leaves the buffer as it came.
 abbrev pub filledWhere : Written → List ℕ → List ℕ → List ℕ
-filledWhere (Bytes n) sheet buffer = sheet ++ drop (length sheet) buffer
+filledWhere (Bytes n) sheet buffer = filledWith sheet buffer
 filledWhere (NotWritten why) sheet buffer = buffer
 
 -- The buffer after writing a plan into it.

@@ -152,7 +152,7 @@ entered-line-listed sites line more listed e =
 -- The line of a site by the rules.
 module _ (site : Site) (rules : ByRules site) where
   -- It has at most 20 bytes.
-  line-short : length (listLine site) < endedLine
+  pub line-short : length (listLine site) < endedLine
   unfolding listLine
   line-short =
       omega (

@@ -1,18 +1,14 @@
 -- Document 01: what the placing program writes for a list, whole.
 -- Assumes nothing.
 use mathlib.Core.Path.{_≡_, refl, ap, _∙_}
-use mathlib.Core.Bool.{Bool, true, false}
 use mathlib.Core.List.{List, [], _∷_, _++_}
 use Prim.Native.Nat.{ℕ, _≤_}
 use native.Mathlib.Omega.{arith}
-use lib.Dec.{ltb}
 use lib.ListN.{length}
 use Rattle.plan.specs.declared.plan.Planned.{Planned}
-use Rattle.plan.specs.declared.plan.Written.{Written}
-use Rattle.plan.specs.declared.plan.Written.the-variants.{Bytes, NotWritten}
 use Rattle.plan.specs.declared.refusal.Outcome.the-variants.{Done, Refused}
 use Rattle.plan.specs.declared.refusal.Refusal.{Refusal}
-use Rattle.plan.specs.declared.refusal.Refusal.the-variants.{NoSites, ShortBuffer}
+use Rattle.plan.specs.declared.refusal.Refusal.the-variants.{NoSites}
 use Rattle.plan.specs.rules.Refusal.{numberOf}
 use Rattle.plan.specs.rules.Text.{tab, lineFeed}
 use Rattle.plan.specs.rules.Number.{decimal}
@@ -21,7 +17,7 @@ use Rattle.plan.specs.rules.Enter.{Sites, accepted, refused}
 use Rattle.plan.specs.rules.List.{readList}
 use Rattle.plan.specs.rules.Sheet.{sheetOf}
 use Rattle.plan.specs.rules.Plan.{placed}
-use Rattle.plan.specs.rules.Calls.{started, numberIf, filledWhere}
+use Rattle.plan.specs.rules.Calls.{started}
 
 -- The word refused.
 abbrev pub refusedWord : List ℕ
@@ -42,12 +38,6 @@ listPlaced (accepted []) = record { outcome = Refused NoSites; plan = started }
 listPlaced (accepted (site ∷ sites)) = record { outcome = Done; plan = placed (site ∷ sites) }
 listPlaced (refused why) = record { outcome = Refused why; plan = started }
 
--- The number of that.
-abbrev pub listNumber : Sites → ℕ
-listNumber (accepted []) = 8
-listNumber (accepted (site ∷ sites)) = 0
-listNumber (refused why) = numberOf why
-
 -- The output for what a list was read as: its sheet, or the refusal.
 abbrev pub outputFor : Sites → List ℕ
 outputFor (accepted []) = refusalLine NoSites
@@ -66,28 +56,3 @@ output-sheet text sites read nonempty = ap outputFor read ∙ of-some sites none
     of-some : (sites : List Site) → 1 ≤ length sites → outputFor (accepted sites) ≡ sheetOf sites
     of-some [] nonempty = absurd (omega arith)
     of-some (site ∷ sites) nonempty = refl
-
--- Into a buffer: the output's length, or 10 where the buffer is shorter.
-abbrev pub outputWhere : (short : Bool) → List ℕ → Written
-outputWhere true output = NotWritten ShortBuffer
-outputWhere false output = Bytes (length output)
-
--- The answer for a text,
-abbrev pub outputWritten : List ℕ → List ℕ → Written
-outputWritten text buffer = outputWhere (ltb (length buffer) (length (outputOf text))) (outputOf text)
-
--- its number,
-abbrev pub outputNumber : List ℕ → List ℕ → ℕ
-outputNumber text buffer = numberIf (ltb (length buffer) (length (outputOf text))) 10 0
-
--- and the buffer afterwards.
-abbrev pub outputAfter : List ℕ → List ℕ → List ℕ
-outputAfter text buffer = filledWhere (outputWritten text buffer) (outputOf text) buffer
-
--- The answer for the line of a refusal alone,
-abbrev pub refusalWritten : Refusal → List ℕ → Written
-refusalWritten why buffer = outputWhere (ltb (length buffer) (length (refusalLine why))) (refusalLine why)
-
--- and the buffer afterwards.
-abbrev pub refusalAfter : Refusal → List ℕ → List ℕ
-refusalAfter why buffer = filledWhere (refusalWritten why buffer) (refusalLine why) buffer

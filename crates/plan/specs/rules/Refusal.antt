@@ -30,16 +30,22 @@ numberOf ShortBuffer = 10
 -- the work table is shorter than n × n
 numberOf ShortTable = 11
 
--- Numbers of refusals end with 11.
+-- Numbers of refusals go from 1 to 11.
+number-range : (why : Refusal) → (1 ≤ numberOf why) × (numberOf why ≤ 11)
+number-range Line = omega arith
+number-range Name = omega arith
+number-range Coordinate = omega arith
+number-range NameTaken = omega arith
+number-range PlaceTaken = omega arith
+number-range NoSuchSite = omega arith
+number-range Full = omega arith
+number-range NoSites = omega arith
+number-range NotPlaced = omega arith
+number-range ShortBuffer = omega arith
+number-range ShortTable = omega arith
+
+pub number-some : (why : Refusal) → 1 ≤ numberOf why
+number-some why = number-range why .0
+
 pub number-small : (why : Refusal) → numberOf why ≤ 11
-number-small Line = omega arith
-number-small Name = omega arith
-number-small Coordinate = omega arith
-number-small NameTaken = omega arith
-number-small PlaceTaken = omega arith
-number-small NoSuchSite = omega arith
-number-small Full = omega arith
-number-small NoSites = omega arith
-number-small NotPlaced = omega arith
-number-small ShortBuffer = omega arith
-number-small ShortTable = omega arith
+number-small why = number-range why .1

@@ -5,7 +5,7 @@ use mathlib.Core.Path.{_≡_, refl, sym, ap, ap₂, _∙_, subst}
 use mathlib.Core.Bool.{Bool, true, false, not, _&&_}
 use mathlib.Core.List.{List, [], _∷_, _++_, append-nil, append-assoc}
 use mathlib.Core.Option.{Option, some, none}
-use Prim.Native.Nat.{ℕ, zero, suc, _*_, _≤_, _<_}
+use Prim.Native.Nat.{ℕ, zero, suc, _+_, _*_, _≤_, _<_}
 use native.Mathlib.Omega.{arith}
 use borrow.Author.Tests.{leb-true, leb-false, ltb-true, eqb-true, not-true}
 use lib.Dec.{leb, ltb, eqb}
@@ -29,20 +29,22 @@ use Rattle.plan.specs.declared.refusal.Refusal.the-variants.{
   ShortTable,
 }
 use Rattle.plan.specs.declared.plan.Plan.{Plan}
+use Rattle.plan.specs.declared.plan.Planned.{Planned}
 use Rattle.plan.specs.declared.plan.AskedSide.the-variants.{NoSide}
 use Rattle.plan.specs.declared.plan.AskedCorner.the-variants.{NoCorner}
 use Rattle.plan.specs.declared.plan.Written.the-variants.{NotWritten}
-use Rattle.plan.specs.rules.Refusal.{numberOf}
+use Rattle.plan.specs.rules.Refusal.{numberOf, number-some}
 use Rattle.plan.specs.rules.Text.{lineFeed, Cut, CutOf, cut-is, firstLine, endedLine}
 use Rattle.plan.specs.rules.Name.{isName}
 use Rattle.plan.specs.rules.Site.{Site, placeAt, nameTaken, placeTaken, Listed}
 use Rattle.plan.specs.rules.Enter.{Sites, accepted, refused, refusedIf, appended, entered, refused-not-accepted, appended-more, listed-none}
 use Rattle.plan.specs.rules.List.{enteredLine, afterLine, withLine, readLines, readList, listLine, listText}
-use Rattle.plan.specs.rules.List.{entered-line, entered-line-listed, read-whole}
+use Rattle.plan.specs.rules.List.{entered-line, entered-line-listed, read-whole, list-read, read-list}
 use Rattle.plan.specs.rules.Sheet.{sheetOf}
-use Rattle.plan.specs.rules.Plan.{sitesIn}
-use Rattle.plan.specs.rules.Calls.{sitesNumber, lineNumber, plannedOr, enteredIn, placeWhere, placedIn}
+use Rattle.plan.specs.rules.Plan.{sitesIn, Valid}
+use Rattle.plan.specs.rules.Calls.{sitesNumber, lineNumber, started, plannedOr, enteredIn, readFrom, placeWhere, placedIn}
 use Rattle.plan.specs.rules.Calls.{answerFor, sideWhere, sideAsked, cornerWhere, cornerAsked, writeWhere, written}
+use Rattle.plan.specs.Demands.{FirstRefused, ReadTold, read-refused, read-all}
 use Rattle.plan.specs.theorems.Numbers.{line-number}
 
 -- ---- the conditions
@@ -60,15 +62,6 @@ pub data EnterCondition (sites : List Site) (name : List ℕ) (x y : ℕ) : Refu
   name-taken : nameTaken sites name ≡ true → EnterCondition sites name x y NameTaken
   -- 5: a place already in the plan
   place-taken : placeTaken sites (placeAt x y) ≡ true → EnterCondition sites name x y PlaceTaken
-
--- Reading: the first refused line, after lines that are accepted, and its number.
-pub record FirstRefused (text : List ℕ) (why : Refusal) : Type 0 where
-  pub before : List Site
-  pub rest : List ℕ
-  pub parts : text ≡ listText before ++ rest
-  pub some-rest : 1 ≤ length rest
-  pub accepted-before : Listed before
-  pub number-is : numberOf why ≡ lineNumber before (firstLine rest)
 
 -- Placing.
 pub data PlaceCondition (plan : Plan) (table : List ℕ) : Refusal → Type 0 where
@@ -267,15 +260,28 @@ lines-condition (suc k) sites (b ∷ text) why listed is = by-line (lines-condit
     by-line further none first is = refused-here listed (omega arith) (ap (enteredFirst sites) first ∙ is)
     by-line further (some cut) first is = by-entered further cut first (enteredLine sites (cut .line)) refl is
 
--- Reading.
-pub read-condition : (text : List ℕ) (why : Refusal) → readList text ≡ refused why → FirstRefused text why
+-- Reading: what is refused is refused at the first refused line.
+pub read-condition : (text : List ℕ) (why : Refusal) → readList text ≡ refused why → FirstRefused text (numberOf why)
 read-condition text why is =
     let first = lines-condition (length text) [] text why listed-none (sym (read-whole text) ∙ is) in
     record {
+      line = length (first .added) + 1;
       before = first .added;
       rest = first .rest;
+      line-is = refl;
       parts = first .parts;
+      accepted-before = list-read (first .added) (first .listed);
       some-rest = first .some-rest;
-      accepted-before = first .listed;
+      some-number = number-some why;
       number-is = sym (ap sitesNumber (first .here)) ∙ first-number (first .added) (firstLine (first .rest));
     }
+
+-- So it tells that line's number and hands back an empty plan; accepted, every line of the text is a site of the plan.
+pub read-told : {r : Planned} (text : List ℕ) → (r ≡ readFrom text) × Valid (r .plan)
+    → (r ≡ readFrom text) × (Valid (r .plan) × ReadTold text r)
+read-told text both = (both .0, (both .1, subst (ReadTold text) (sym (both .0)) (by-sites (readList text) refl)))
+  where
+    by-sites : (sites : Sites) → readList text ≡ sites → ReadTold text (plannedOr started sites)
+    by-sites (accepted sites) is =
+        read-all (record { sites = sites; read = is; every-line = read-list text sites is; plan-is = refl }) refl
+    by-sites (refused why) is = read-refused (read-condition text why is) refl

@@ -125,7 +125,7 @@ placed-counted plan table = by-tests (eqb (plan .count) 0) (ltb (length table) (
     by-tests false false = ap length (sites-placed (sitesIn plan))
 
 -- Sites that a site was entered into are one more.
-entered-more : (sites : List Site) (name : List ℕ) (x y : ℕ) (more : List Site) → entered sites name x y ≡ accepted more
+pub entered-more : (sites : List Site) (name : List ℕ) (x y : ℕ) (more : List Site) → entered sites name x y ≡ accepted more
     → length more ≡ length sites + 1
 unfolding entered appended
 entered-more sites name x y more is =

@@ -3,21 +3,21 @@
 -- that a row more needs no proof.
 -- Assumes nothing.
 use mathlib.Core.Path.{_≡_, refl, sym, ap, _∙_, subst}
-use mathlib.Core.Bool.{Bool, true, false, _&&_}
+use mathlib.Core.Bool.{Bool, true, false, not, _&&_}
 use mathlib.Core.List.{List, [], _∷_, map, List·Memᴰ, List·Memᴰ·cases-cons, List·Memᴰ·not-nil}
 use mathlib.Core.Logic.{⊎-elim}
-use Prim.Native.Nat.{ℕ, suc, _*_, _≤_}
+use mathlib.Core.Option.{Option, some, none}
+use Prim.Native.Nat.{ℕ, suc, _+_, _*_, _≤_}
 use native.Mathlib.Nat.{le-trans, mul-le-mul}
 use native.Mathlib.Omega.{arith}
 use borrow.Author.Tests.{le-ltb, ne-eqb}
 use lib.Dec.{T, eqb, lit≤}
 use lib.ListN.{length}
 use Rattle.placing.specs.declared.units.Place.{Place}
-use Rattle.placing.specs.rules.Units.{mostSites}
 use Rattle.placing.specs.rules.Tests.{eq-decides, both-decide, not-decides}
 use Rattle.placing.specs.rules.Answer.{Answer, answerOf, numbered, unbounded}
 use Rattle.placing.specs.rules.Choice.{MeetingPair}
-use Rattle.placing.specs.theorems.Twice.{meeting-decides, meeting-larger}
+use Rattle.placing.specs.theorems.Twice.{meetingTest, meeting-decides, meeting-larger}
 use Rattle.placing.specs.theorems.Checked.{checkedTest, checked-right, passed, both-passed}
 use Rattle.plan.specs.declared.refusal.Outcome.the-variants.{Done, Refused}
 use Rattle.plan.specs.declared.refusal.Outcome.{Outcome}
@@ -31,6 +31,7 @@ use Rattle.plan.specs.rules.Site.{Site, placeAt, placesOf, nameTaken, pl
 use Rattle.plan.specs.rules.Enter.{Sites, accepted, refused, appended, entered, entered-listed, listed-none}
 use Rattle.plan.specs.rules.Plan.{unplaced, placed, answerIn, placed-answer, sites-unplaced}
 use Rattle.plan.specs.rules.Calls.{started, plannedOr, enteredIn, placedIn}
+use Rattle.plan.specs.theorems.HandedBack.{entered-more}
 
 -- A name and two numbers to enter.
 pub record Entry : Type 0 where
@@ -44,10 +45,15 @@ pub data End : Type 0 where
   answered : Answer → End
   refusedAt : (i number : ℕ) → End
 
--- Entries, with what they lead to.
+-- Entries, with what they lead to, and where document 01 tells it the side up to which the labels of the answer do not meet.
 pub record Row : Type 0 where
   pub entries : List Entry
   pub end : End
+  pub apart-to : Option ℕ
+
+-- A row of which it does not.
+abbrev pub row : List Entry → End → Row
+row entries end = record { entries = entries; end = end; apart-to = none }
 
 -- ---- the table
 
@@ -55,37 +61,33 @@ pub record Row : Type 0 where
 abbrev pub at : (letter x y : ℕ) → Entry
 at letter x y = record { name = letter ∷ []; x = x; y = y }
 
--- The list A, B, C, and the corners of its answer.
-abbrev pub column : List Entry
-column = at 65 10 10 ∷ at 66 10 14 ∷ at 67 10 20 ∷ []
-
-abbrev pub columnCorners : List ℕ
-columnCorners = 3 ∷ 1 ∷ 1 ∷ []
-
 -- Document 01's cases, in its order, and placing a plan of no sites.
 abbrev pub rows : List Row
 rows =
-    record { entries = at 65 5 5 ∷ []; end = answered (unbounded (1 ∷ [])) }
-    ∷ record { entries = at 65 0 0 ∷ at 66 1 0 ∷ []; end = answered (unbounded (2 ∷ 1 ∷ [])) }
-    ∷ record { entries = at 65 0 0 ∷ at 66 1 0 ∷ at 67 0 1 ∷ at 68 1 1 ∷ []; end = answered (unbounded (3 ∷ 4 ∷ 2 ∷ 1 ∷ [])) }
-    ∷ record { entries = at 65 0 0 ∷ at 66 1 1 ∷ at 67 2 2 ∷ at 68 3 3 ∷ []; end = answered (unbounded (3 ∷ 2 ∷ 4 ∷ 1 ∷ [])) }
+    row (at 65 5 5 ∷ []) (answered (unbounded (1 ∷ [])))
+    ∷ row (at 65 0 0 ∷ at 66 1 0 ∷ []) (answered (unbounded (2 ∷ 1 ∷ [])))
+    ∷ row (at 65 0 0 ∷ at 66 1 0 ∷ at 67 0 1 ∷ at 68 1 1 ∷ []) (answered (unbounded (3 ∷ 4 ∷ 2 ∷ 1 ∷ [])))
+    ∷ row (at 65 0 0 ∷ at 66 1 1 ∷ at 67 2 2 ∷ at 68 3 3 ∷ []) (answered (unbounded (3 ∷ 2 ∷ 4 ∷ 1 ∷ [])))
+    ∷ row (at 65 0 0 ∷ at 66 1 1 ∷ at 67 2 2 ∷ at 68 3 3 ∷ at 69 4 4 ∷ []) (answered (numbered 4 (2 ∷ 4 ∷ 2 ∷ 4 ∷ 1 ∷ [])))
     ∷ record {
-      entries = at 65 0 0 ∷ at 66 1 1 ∷ at 67 2 2 ∷ at 68 3 3 ∷ at 69 4 4 ∷ [];
-      end = answered (numbered 4 (2 ∷ 4 ∷ 2 ∷ 4 ∷ 1 ∷ []));
+      entries = at 65 10 10 ∷ at 66 10 14 ∷ at 67 10 20 ∷ [];
+      end = answered (numbered 6 (3 ∷ 1 ∷ 1 ∷ []));
+      apart-to = some 12;
     }
-    ∷ record { entries = column; end = answered (numbered 6 columnCorners) }
-    ∷ record {
-      entries =
-          at 65 0 0 ∷ at 66 1 0 ∷ at 67 2 0 ∷ at 68 0 1 ∷ at 69 1 1 ∷ at 70 2 1 ∷ at 71 0 2 ∷ at 72 1 2 ∷ at 73 2 2 ∷ [];
-      end = answered (numbered 1 (1 ∷ 1 ∷ 1 ∷ 1 ∷ 1 ∷ 1 ∷ 1 ∷ 1 ∷ 1 ∷ []));
-    }
-    ∷ record { entries = at 65 10000 10000 ∷ []; end = answered (unbounded (1 ∷ [])) }
-    ∷ record { entries = at 65 10001 0 ∷ []; end = refusedAt 0 3 }
-    ∷ record { entries = at 65 0 10001 ∷ []; end = refusedAt 0 3 }
-    ∷ record { entries = at 65 5 5 ∷ at 66 5 5 ∷ []; end = refusedAt 1 5 }
-    ∷ record { entries = at 65 5 5 ∷ at 65 5 5 ∷ []; end = refusedAt 1 4 }
-    ∷ record { entries = []; end = refusedAt 0 8 }
+    ∷ row
+    (at 65 0 0 ∷ at 66 1 0 ∷ at 67 2 0 ∷ at 68 0 1 ∷ at 69 1 1 ∷ at 70 2 1 ∷ at 71 0 2 ∷ at 72 1 2 ∷ at 73 2 2 ∷ [])
+    (answered (numbered 1 (1 ∷ 1 ∷ 1 ∷ 1 ∷ 1 ∷ 1 ∷ 1 ∷ 1 ∷ 1 ∷ [])))
+    ∷ row (at 65 10000 10000 ∷ []) (answered (unbounded (1 ∷ [])))
+    ∷ row (at 65 10001 0 ∷ []) (refusedAt 0 3)
+    ∷ row (at 65 0 10001 ∷ []) (refusedAt 0 3)
+    ∷ row (at 65 5 5 ∷ at 66 5 5 ∷ []) (refusedAt 1 5)
+    ∷ row (at 65 5 5 ∷ at 65 5 5 ∷ []) (refusedAt 1 4)
+    ∷ row [] (refusedAt 0 8)
     ∷ []
+
+-- None is missing.
+pub rows-count : length rows ≡ 13
+rows-count = refl
 
 -- ---- what entries lead to
 
@@ -131,33 +133,38 @@ abbrev endOf : Run → End
 endOf (through sites) = answered (answerOf (placesOf sites))
 endOf (stopped i why) = refusedAt i (numberOf why)
 
-module _ (table : List ℕ) (enough : mostSites * mostSites ≤ length table) where
+-- With a table for so many sites.
+module _ (table : List ℕ) (most : ℕ) (enough : most * most ≤ length table) where
   -- Placing sites that are listed.
-  placing-run : (i : ℕ) (sites : List Site) → Listed sites → leadsFrom table i (unplaced sites) [] ≡ endOf (runFrom i sites [])
+  placing-run : (i : ℕ) (sites : List Site) → Listed sites → length sites ≤ most
+      → leadsFrom table i (unplaced sites) [] ≡ endOf (runFrom i sites [])
   unfolding unplaced
-  placing-run i [] listed = refl
-  placing-run i (site ∷ sites) listed =
+  placing-run i [] listed few = refl
+  placing-run i (site ∷ sites) listed few =
       rw (
         ne-eqb (length (site ∷ sites)) 0 (omega arith),
-        le-ltb (length table) (length (site ∷ sites) * length (site ∷ sites)) (le-trans (mul-le-mul (listed .few) (listed .few)) enough),
+        le-ltb (length table) (length (site ∷ sites) * length (site ∷ sites)) (le-trans (mul-le-mul few few) enough),
       )
       (ap answered
       (ap (λ (held : List Site). answerIn (placed held)) (sites-unplaced (site ∷ sites))
       ∙ placed-answer (site ∷ sites) (listed .places-distinct)))
 
   -- The calls on plans lead where the sites by themselves do.
-  leads-run : (i : ℕ) (sites : List Site) → Listed sites → (entries : List Entry)
+  leads-run : (i : ℕ) (sites : List Site) → Listed sites → (entries : List Entry) → length sites + length entries ≤ most
       → leadsFrom table i (unplaced sites) entries ≡ endOf (runFrom i sites entries)
-  leads-run i sites listed [] = placing-run i sites listed
-  leads-run i sites listed (entry ∷ entries) =
+  leads-run i sites listed [] few = placing-run i sites listed (omega arith)
+  leads-run i sites listed (entry ∷ entries) few =
       rw (sites-unplaced sites)
-      (step (λ more each. leads-run (suc i) more each entries) (entered sites (entry .name) (entry .x) (entry .y)) refl)
+      (step (λ more each fewer. leads-run (suc i) more each entries fewer) (entered sites (entry .name) (entry .x) (entry .y)) refl)
     where
-      step : ((more : List Site) → Listed more → leadsFrom table (suc i) (unplaced more) entries ≡ endOf (runFrom (suc i) more entries))
+      step : ((more : List Site) → Listed more → length more + length entries ≤ most
+          → leadsFrom table (suc i) (unplaced more) entries ≡ endOf (runFrom (suc i) more entries))
           → (after : Sites) → entered sites (entry .name) (entry .x) (entry .y) ≡ after
           → onward (λ more. leadsFrom table (suc i) more entries) i (plannedOr (unplaced sites) after)
           ≡ endOf (runOn (λ more. runFrom (suc i) more entries) i after)
-      step further (accepted more) e = further more (entered-listed sites (entry .name) (entry .x) (entry .y) more listed e)
+      step further (accepted more) e =
+          further more (entered-listed sites (entry .name) (entry .x) (entry .y) more listed e)
+          (omega (arith, entered-more sites (entry .name) (entry .x) (entry .y) more e))
       step further (refused why) e = refl
 
 -- ---- the test of a row
@@ -169,12 +176,37 @@ endTest (through sites) (refusedAt i number) = false
 endTest (stopped j why) (answered answer) = false
 endTest (stopped j why) (refusedAt i number) = eqb j i && eqb (numberOf why) number
 
+-- The places of entries.
+abbrev pub spots : List Entry → List Place
+spots entries = map (λ entry. placeAt (entry .x) (entry .y)) entries
+
+-- The labels of an answer do not meet at the side that is told.
+abbrev apartTest : List Place → End → Option ℕ → Bool
+apartTest places end none = true
+apartTest places (answered answer) (some side) = not (meetingTest side 1 places (answer .corners))
+apartTest places (refusedAt i number) (some side) = false
+
 abbrev rowTest : Row → Bool
-rowTest row = endTest (runFrom 0 [] (row .entries)) (row .end)
+rowTest row = endTest (runFrom 0 [] (row .entries)) (row .end) && apartTest (spots (row .entries)) (row .end) (row .apart-to)
 
 abbrev rowsTest : List Row → Bool
 rowsTest [] = true
 rowsTest (row ∷ rows) = rowTest row && rowsTest rows
+
+-- Every row of a list that passes passes.
+row-passed : (rows : List Row) → T (rowsTest rows) → (row : Row) → List·Memᴰ row rows → T (rowTest row)
+row-passed [] test row member = absurd (List·Memᴰ·not-nil member)
+row-passed (first ∷ rows) test row member =
+    let parts = both-passed (rowTest first) (rowsTest rows) test in
+    ⊎-elim (λ same. subst (λ (r : Row). T (rowTest r)) (sym same) (parts .0)) (row-passed rows (parts .1) row) (List·Memᴰ·cases-cons member)
+
+-- So every row of the table does: antt computes it.
+known-passed : (row : Row) → List·Memᴰ row rows
+    → T (endTest (runFrom 0 [] (row .entries)) (row .end)) × T (apartTest (spots (row .entries)) (row .end) (row .apart-to))
+unfolding entered appended isName nameBytes sameBytes nameTaken placeTaken
+known-passed row member =
+    both-passed (endTest (runFrom 0 [] (row .entries)) (row .end)) (apartTest (spots (row .entries)) (row .end) (row .apart-to))
+    (row-passed rows tt row member)
 
 -- An end that passes its test is right.
 end-right : (run : Run) (end : End) → T (endTest run end) → endOf run ≡ end
@@ -186,24 +218,28 @@ end-right (stopped j why) (refusedAt i number) test =
     let same = passed (both-decide (eq-decides j i) (eq-decides (numberOf why) number)) test in
     λ k. refusedAt (same .0 k) (same .1 k)
 
--- So is that of every row of a list that passes.
-rows-right : (rows : List Row) → T (rowsTest rows) → (row : Row) → List·Memᴰ row rows → endOf (runFrom 0 [] (row .entries)) ≡ row .end
-rows-right [] test row member = absurd (List·Memᴰ·not-nil member)
-rows-right (first ∷ rows) test row member =
-    let parts = both-passed (rowTest first) (rowsTest rows) test in
-    ⊎-elim (λ same. end-right (runFrom 0 [] (row .entries)) (row .end) (subst (λ (r : Row). T (rowTest r)) (sym same) (parts .0)))
-    (rows-right rows (parts .1) row) (List·Memᴰ·cases-cons member)
+-- The entries of every row lead to its end, with a work table of n × n bytes for n entries.
+pub known : (row : Row) → List·Memᴰ row rows → (table : List ℕ) → length (row .entries) * length (row .entries) ≤ length table
+    → leadsTo table (row .entries) ≡ row .end
+known row member table enough =
+    leads-run table (length (row .entries)) enough 0 [] listed-none (row .entries) (omega arith)
+    ∙ end-right (runFrom 0 [] (row .entries)) (row .end) (known-passed row member .0)
 
--- The entries of every row lead to its end, with a work table for 240 sites.
-pub known : (row : Row) → List·Memᴰ row rows → (table : List ℕ) → mostSites * mostSites ≤ length table → leadsTo table (row .entries) ≡ row .end
-unfolding entered appended isName nameBytes sameBytes nameTaken placeTaken
-known row member table enough = leads-run table enough 0 [] listed-none (row .entries) ∙ rows-right rows tt row member
+-- Labels that do not meet at a side meet at no smaller one.
+apart-right : (places : List Place) (end : End) (told : Option ℕ) {answer : Answer} {side : ℕ} → T (apartTest places end told)
+    → end ≡ answered answer → told ≡ some side → (p q : ℕ) → p ≤ side * q → MeetingPair p q places (answer .corners) → ⊥
+apart-right places end none test is told-is p q fits pair = let z : _≡_ {A = ℕ} 0 1 = cc in omega arith
+apart-right places (refusedAt i number) (some s) test is told-is p q fits pair = test
+apart-right places (answered a) (some s) {answer} {side} test is told-is p q fits pair =
+    let same : a ≡ answer = cc in
+    let same-side : s ≡ side = cc in
+    let within : p ≤ s * q = rw same-side fits in
+    passed (not-decides (meeting-decides s 1 places (a .corners))) test
+    (meeting-larger (lit≤ tt) (omega arith) (subst (λ (x : Answer). MeetingPair p q places (x .corners)) (sym same) pair))
 
--- The places of entries.
-abbrev pub spots : List Entry → List Place
-spots entries = map (λ entry. placeAt (entry .x) (entry .y)) entries
-
--- "Corners 3, 1, 1 do not meet up to side 12, so the factor two is reached."
-pub factor-two-reached : (p q : ℕ) → p ≤ 12 * q → MeetingPair p q (spots column) columnCorners → ⊥
-factor-two-reached p q fits pair =
-    passed (not-decides (meeting-decides 12 1 (spots column) columnCorners)) tt (meeting-larger (lit≤ tt) (omega arith) pair)
+-- The labels of every row's answer do not meet up to the side that it tells: for A, B, C up to 12, twice the side of its answer, "so the
+-- factor two is reached".
+pub known-apart : (row : Row) → List·Memᴰ row rows → {answer : Answer} {side : ℕ} → row .end ≡ answered answer → row .apart-to ≡ some side
+    → (p q : ℕ) → p ≤ side * q → MeetingPair p q (spots (row .entries)) (answer .corners) → ⊥
+known-apart row member is told-is =
+    apart-right (spots (row .entries)) (row .end) (row .apart-to) (known-passed row member .1) is told-is

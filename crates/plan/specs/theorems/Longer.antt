@@ -5,9 +5,10 @@ use mathlib.Core.Path.{_≡_, refl, sym, ap, ap₂, _∙_}
 use mathlib.Core.List.{List, [], _∷_, _++_, append-assoc}
 use mathlib.Core.Option.{Option, some, none}
 use Prim.Native.Nat.{ℕ, zero, suc, _+_, _-_, _*_, _≤_}
+use native.Mathlib.Decide.{decLe}
 use native.Mathlib.Omega.{arith}
 use lib.ListN.{length, take, drop, take-append-drop, length-append, length-take}
-use lib.Seq.{take-append-add}
+use lib.Seq.{take-append-add, take-all}
 use Rattle.plan.specs.declared.refusal.Refusal.{Refusal}
 use Rattle.plan.specs.declared.refusal.Refusal.the-variants.{Line}
 use Rattle.plan.specs.rules.Text.{lineFeed, Cut, cutWithin, firstLine, CutOf, cut-found, cut-is, endedLine}
@@ -94,6 +95,14 @@ longer-refused text long =
     )
 
 -- So its output is that of its first 5,061 bytes.
-pub output-longer : (text : List ℕ) → longestText ≤ length text → outputOf text ≡ outputOf (take longestText text)
+output-longer : (text : List ℕ) → longestText ≤ length text → outputOf text ≡ outputOf (take longestText text)
 unfolding outputOf
 output-longer text long = let both = longer-refused text long in ap outputFor (both .1 ∙ sym (both .2))
+
+-- Whatever its length, a text has the output of its first 5,061 bytes: of an input of which only these are read, they decide the output.
+pub output-first : (input read : List ℕ) → take longestText input ≡ read → outputOf read ≡ outputOf input
+output-first input read is = ap outputOf (sym is) ∙ by-length (decLe longestText (length input))
+  where
+    by-length : Dec (longestText ≤ length input) → outputOf (take longestText input) ≡ outputOf input
+    by-length (yes long) = sym (output-longer input long)
+    by-length (no short) = ap outputOf (take-all longestText input (omega arith))

@@ -1,6 +1,6 @@
--- The number and the value of each call's answer, from the equation that its contract gives.
+-- What each call tells, from the equation that its contract gives: demand 1, and the value that an answer carries.
 -- Assumes nothing.
-use mathlib.Core.Path.{_≡_, refl, ap, _∙_}
+use mathlib.Core.Path.{_≡_, refl, sym, ap, _∙_, subst}
 use mathlib.Core.Bool.{Bool, true, false, not, _&&_}
 use mathlib.Core.List.{List, [], _∷_}
 use mathlib.Core.Option.{Option, some, none}
@@ -10,6 +10,7 @@ use lib.ListN.{length}
 use Rattle.placing.specs.declared.units.Side.{Side}
 use Rattle.placing.specs.rules.Units.{greatestCoordinate, mostSites}
 use Rattle.placing.specs.rules.Corners.{cornerAt}
+use Rattle.placing.specs.rules.Answer.{sideNumber}
 use Rattle.plan.specs.declared.refusal.Refusal.{Refusal}
 use Rattle.plan.specs.declared.refusal.Refusal.the-variants as refusal
 use Rattle.plan.specs.declared.plan.Plan.{Plan}
@@ -23,13 +24,12 @@ use Rattle.plan.specs.rules.Number.{numberIn, asCoordinate, coordinateIn
 use Rattle.plan.specs.rules.Name.{isName}
 use Rattle.plan.specs.rules.Site.{Site, placeAt, nameTaken, placeTaken}
 use Rattle.plan.specs.rules.Enter.{Sites, accepted, refused, refusedIf, appended, entered}
-use Rattle.plan.specs.rules.List.{withCoordinates, enteredFields, enteredLine, readList}
+use Rattle.plan.specs.rules.List.{withCoordinates, enteredFields, enteredLine}
 use Rattle.plan.specs.rules.Sheet.{sheetOf}
 use Rattle.plan.specs.rules.Plan.{sitesIn, Valid}
 use Rattle.plan.specs.rules.Calls.{
   outcomeNumber,
   sideAskedNumber,
-  sideNumber,
   sideCarried,
   cornerAskedNumber,
   cornerCarried,
@@ -37,18 +37,16 @@ use Rattle.plan.specs.rules.Calls.{
   writtenLength,
   numberIf,
   carriedAt,
-  started,
   plannedOr,
   enteredIn,
   enterNumber,
-  readFrom,
   sitesNumber,
-  readNumber,
   enterReadNumber,
   fieldsNumber,
   placeWhere,
   placedIn,
-  placeNumber,
+  clearedWhere,
+  tableAfter,
   answerFor,
   sideWhere,
   sideAsked,
@@ -59,7 +57,10 @@ use Rattle.plan.specs.rules.Calls.{
   writeWhere,
   written,
   writeNumber,
+  filledWhere,
+  bufferAfter,
 }
+use Rattle.plan.specs.Demands.{Refuses, EnterTold, PlaceTold, SideTold, CornerTold, WriteTold}
 
 -- ---- enter and read
 
@@ -125,46 +126,41 @@ pub line-number : (sites : List Site) (line : List ℕ) → sitesNumber (entered
 unfolding enteredLine
 line-number sites line = fields-number sites (fieldsOf line)
 
--- The plan that is handed back tells the number of the sites.
-planned-number : (other : Plan) (sites : Sites) → outcomeNumber (plannedOr other sites .outcome) ≡ sitesNumber sites
-planned-number other (accepted sites) = refl
-planned-number other (refused why) = refl
+-- What is handed back for some sites afterwards: their number, and where they are refused the plan as it came.
+planned-refuses : (plan : Plan) (sites : Sites) {number : ℕ} → sitesNumber sites ≡ number
+    → Refuses (outcomeNumber (plannedOr plan sites .outcome)) number plan (plannedOr plan sites .plan)
+planned-refuses plan (accepted sites) is = record { number-is = is; as-it-came = λ given. absurd (given refl) }
+planned-refuses plan (refused why) is = record { number-is = is; as-it-came = λ given. refl }
 
--- Entering gives the number of its first test that fails.
+-- Entering.
 pub enter-told : {r : Planned} (plan : Plan) (name : List ℕ) (x y : ℕ) → (r ≡ enteredIn plan name x y) × Valid (r .plan)
-    → (r ≡ enteredIn plan name x y) × (Valid (r .plan) × (outcomeNumber (r .outcome) ≡ enterNumber (sitesIn plan) name x y))
+    → (r ≡ enteredIn plan name x y) × (Valid (r .plan) × EnterTold plan name x y r)
 enter-told plan name x y both =
-    let number =
-    ap (λ (p : Planned). outcomeNumber (p .outcome)) (both .0) ∙ planned-number plan (entered (sitesIn plan) name x y)
-    ∙ entered-number (sitesIn plan) name x y
-    in
-    (both .0, (both .1, number))
-
--- Reading gives that of its first refused line.
-pub read-told : {r : Planned} (text : List ℕ) → (r ≡ readFrom text) × Valid (r .plan)
-    → (r ≡ readFrom text) × (Valid (r .plan) × (outcomeNumber (r .outcome) ≡ readNumber text))
-read-told text both =
-    let number = ap (λ (p : Planned). outcomeNumber (p .outcome)) (both .0) ∙ planned-number started (readList text) in
-    (both .0, (both .1, number))
+    let told = planned-refuses plan (entered (sitesIn plan) name x y) (entered-number (sitesIn plan) name x y) in
+    (both .0, (both .1, subst (EnterTold plan name x y) (sym (both .0)) told))
 
 -- ---- place
 
--- Placing gives the number of its first test that fails.
-pub place-number : {r : Planned} (plan : Plan) (table : List ℕ) → r ≡ placedIn plan table → outcomeNumber (r .outcome) ≡ placeNumber plan table
-place-number plan table is =
-    ap (λ (p : Planned). outcomeNumber (p .outcome)) is
-    ∙ by-tests (eqb (plan .count) 0) (ltb (length table) (plan .count * plan .count))
+-- Placing.
+pub place-told : {r : Planned} {after : List ℕ} (plan : Plan) (table : List ℕ) → r ≡ placedIn plan table → after ≡ tableAfter plan table
+    → PlaceTold plan table r after
+place-told plan table is left = rw (is, left) (by-tests (eqb (plan .count) 0) (ltb (length table) (plan .count * plan .count)))
   where
-    by-tests : (none short : Bool) → outcomeNumber (placeWhere none short plan .outcome) ≡ numberIf none 8 (numberIf short 11 0)
-    by-tests true short = refl
-    by-tests false true = refl
-    by-tests false false = refl
+    by-tests : (none short : Bool)
+        → Refuses {Given = Plan × List ℕ}
+        (outcomeNumber (placeWhere none short plan .outcome))
+        (numberIf none 8 (numberIf short 11 0))
+        (plan, table)
+        (placeWhere none short plan .plan, clearedWhere (placeWhere none short plan .outcome) (plan .count * plan .count) table)
+    by-tests true short = record { number-is = refl; as-it-came = λ given. refl }
+    by-tests false true = record { number-is = refl; as-it-came = λ given. refl }
+    by-tests false false = record { number-is = refl; as-it-came = λ given. absurd (given refl) }
 
 -- ---- side and corner
 
 -- Asking the side gives 9, or the side.
 pub side-told : {r : AskedSide} (plan : Plan) → r ≡ sideAsked plan
-    → (sideAskedNumber r ≡ askSideNumber plan) × (sideCarried r ≡ carriedAt (askSideNumber plan) (sideNumber (answerFor plan .side)))
+    → SideTold plan r × (sideCarried r ≡ carriedAt (askSideNumber plan) (sideNumber (answerFor plan .side)))
 side-told plan is =
     let told = by-test (plan .placed) (answerFor plan .side) in (ap sideAskedNumber is ∙ told .0, ap sideCarried is ∙ told .1)
   where
@@ -175,8 +171,7 @@ side-told plan is =
 
 -- Asking a corner gives 9, 6, or the corner.
 pub corner-told : {r : AskedCorner} (plan : Plan) (i : ℕ) → r ≡ cornerAsked plan i
-    → (cornerAskedNumber r ≡ askCornerNumber plan i)
-    × (cornerCarried r ≡ carriedAt (askCornerNumber plan i) (cornerAt (answerFor plan .corners) i))
+    → CornerTold plan i r × (cornerCarried r ≡ carriedAt (askCornerNumber plan i) (cornerAt (answerFor plan .corners) i))
 corner-told plan i is =
     let told = by-tests (plan .placed) (leb (plan .count) i) (cornerAt (answerFor plan .corners) i) in
     (ap cornerAskedNumber is ∙ told .0, ap cornerCarried is ∙ told .1)
@@ -190,18 +185,15 @@ corner-told plan i is =
 
 -- ---- write
 
--- Writing gives 9, 10, or the sheet's length.
-pub write-told : {r : Written} (plan : Plan) (buffer : List ℕ) → r ≡ written plan buffer
-    → (writtenNumber r ≡ writeNumber plan buffer)
-    × (writtenLength r ≡ carriedAt (writeNumber plan buffer) (length (sheetOf (sitesIn plan))))
-write-told plan buffer is =
-    let sheet = sheetOf (sitesIn plan) in
-    let told = by-tests (plan .placed) (ltb (length buffer) (length sheet)) sheet in
-    (ap writtenNumber is ∙ told .0, ap writtenLength is ∙ told .1)
+-- Writing: its number, the buffer, and the sheet's length where it is accepted.
+pub write-told : {r : Written} {after : List ℕ} (plan : Plan) (buffer : List ℕ) → r ≡ written plan buffer → after ≡ bufferAfter plan buffer
+    → WriteTold plan buffer r after × (writtenLength r ≡ carriedAt (writeNumber plan buffer) (length (sheetOf (sitesIn plan))))
+write-told plan buffer is left = rw (is, left) (by-tests (plan .placed) (ltb (length buffer) (length (sheetOf (sitesIn plan)))) (sheetOf (sitesIn plan)))
   where
     by-tests : (placed short : Bool) (sheet : List ℕ)
-        → (writtenNumber (writeWhere placed short sheet) ≡ numberIf (not placed) 9 (numberIf short 10 0))
+        → Refuses (writtenNumber (writeWhere placed short sheet)) (numberIf (not placed) 9 (numberIf short 10 0)) buffer
+        (filledWhere (writeWhere placed short sheet) sheet buffer)
         × (writtenLength (writeWhere placed short sheet) ≡ carriedAt (numberIf (not placed) 9 (numberIf short 10 0)) (length sheet))
-    by-tests false short sheet = (refl, refl)
-    by-tests true true sheet = (refl, refl)
-    by-tests true false sheet = (refl, refl)
+    by-tests false short sheet = (record { number-is = refl; as-it-came = λ given. refl }, refl)
+    by-tests true true sheet = (record { number-is = refl; as-it-came = λ given. refl }, refl)
+    by-tests true false sheet = (record { number-is = refl; as-it-came = λ given. absurd (given refl) }, refl)

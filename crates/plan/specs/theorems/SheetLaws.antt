@@ -6,14 +6,13 @@ use mathlib.Core.Option.{some, none}
 use Prim.Native.Nat.{ℕ, _*_, _≤_, _<_}
 use native.Mathlib.Omega.{arith}
 use lib.ListN.{length}
-use Rattle.placing.specs.declared.units.HalfUnits.{HalfUnits}
 use Rattle.placing.specs.declared.units.Place.{Place}
 use Rattle.placing.specs.declared.units.Side.{Side}
 use Rattle.placing.specs.declared.units.Side.the-variants.{Number, Free}
 use Rattle.placing.specs.rules.Units.{xOf, yOf}
 use Rattle.placing.specs.rules.Corners.{Corners}
 use Rattle.placing.specs.rules.Choice.{MeetingPair}
-use Rattle.placing.specs.rules.Answer.{Answer, answerOf, IsAnswer, is-free, is-number, answer-is}
+use Rattle.placing.specs.rules.Answer.{Answer, sideNumber, answerOf, IsAnswer, is-free, is-number, answer-is}
 use Rattle.placing.specs.theorems.Twice.{answer-twice}
 use Rattle.plan.specs.declared.refusal.Refusal.{Refusal}
 use Rattle.plan.specs.rules.Refusal.{numberOf}
@@ -51,7 +50,6 @@ use Rattle.plan.specs.rules.ReadOff.{
 }
 use Rattle.plan.specs.rules.Output.{refusedWord, refusalLine, outputOf, output-sheet}
 use Rattle.plan.specs.Demands.{NoRival}
-use Rattle.plan.specs.rules.Calls.{sideNumber}
 
 -- ---- fields
 
@@ -109,16 +107,6 @@ pub sheet-again : (sites : List Site) → Listed sites → 1 ≤ length sites �
 sheet-again sites listed nonempty =
     ap outputOf (sheet-carries sites listed) ∙ output-sheet (listText sites) sites (list-read sites listed) nonempty
 
--- For a text that is read: its output carries the text,
-pub text-again : (text : List ℕ) (sites : List Site) → readList text ≡ accepted sites → 1 ≤ length sites → carried (outputOf text) ≡ text
-text-again text sites read nonempty =
-    ap carried (output-sheet text sites read nonempty) ∙ sheet-carries sites (read-listed text sites read) ∙ read-list text sites read
-
--- and the text it carries has the same output.
-pub output-again : (text : List ℕ) (sites : List Site) → readList text ≡ accepted sites → 1 ≤ length sites
-    → outputOf (carried (outputOf text)) ≡ outputOf text
-output-again text sites read nonempty = ap outputOf (text-again text sites read nonempty)
-
 -- ---- the number and the spots
 
 -- An answer's side is read as it was written: the word free is no number.
@@ -127,38 +115,13 @@ unfolding numberIn digitsAfter
 side-read (is-free first) = refl
 side-read (is-number {h} none-free least most first above) = number-decimal h (omega arith)
 
--- The number on a sheet is the side that it prints, where that is a number:
+-- The number on a sheet is the side that it prints, where that is a number.
 pub number-read : (sites : List Site) → Listed sites → numberOn (sheetOf sites) ≡ sideNumber (answerOf (placesOf sites) .side)
 unfolding sameBytes
 number-read sites listed =
     ap numberOnLine (sheet-lines sites listed)
     ∙ ap numberOnFields (side-fields (answerOf (placesOf sites) .side))
     ∙ side-read (answer-is (placesOf sites) (listed .places-distinct))
-
--- a side h is read as h,
-pub number-on-sheet : (sites : List Site) (h : HalfUnits) → Listed sites → answerOf (placesOf sites) .side ≡ Number h
-    → numberOn (sheetOf sites) ≡ some (h .0)
-number-on-sheet sites h listed is = number-read sites listed ∙ ap sideNumber is
-
--- and free as no number.
-pub no-number-on-sheet : (sites : List Site) → Listed sites → answerOf (placesOf sites) .side ≡ Free → numberOn (sheetOf sites) ≡ none
-no-number-on-sheet sites listed is = number-read sites listed ∙ ap sideNumber is
-
--- Nor has the line of a refusal a number.
-pub no-number-on-refusal : (why : Refusal) → numberOn (refusalLine why) ≡ none
-unfolding refusalLine sameBytes
-no-number-on-refusal why =
-    ap numberOnLine (lines-more (refusedWord ++ (tab ∷ number)) [] (without-append lineFeed refusedWord (tab ∷ number)
-    (word lineFeed (omega arith)) (omega arith, decimal-without (numberOf why) lineFeed (omega arith))))
-    ∙ ap numberOnFields
-    (fields-more refusedWord number (word tab (omega arith))
-    ∙ ap (λ (fields : List (List ℕ)). refusedWord ∷ fields) (fields-one number (decimal-without (numberOf why) tab (omega arith))))
-  where
-    number : List ℕ
-    number = decimal (numberOf why)
-
-    word : (b : ℕ) → b < 48 → Without b refusedWord
-    word b below = (omega arith, (omega arith, (omega arith, (omega arith, (omega arith, (omega arith, (omega arith, tt)))))))
 
 -- The spot on a site line is the site's place.
 line-spot : {site : Site} (corner : ℕ) → ByRules site → spotIn (fieldsOf (siteLine site corner)) ≡ site .place

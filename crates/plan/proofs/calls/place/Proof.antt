@@ -57,7 +57,7 @@ returns-3 c =
     let holding = valid-holding (start .pre) in
     place-accepts (start .args .plan) (now (start .args .table)) holding (second .before .if1 .left) (second .if2 .left)
     (c .answered .ensures ∙ holding-placed holding (call .place-labels .result) (call .place-labels .ensures .0))
-    (call .place-labels .ensures .1)
+    (call .place-labels .ensures .1 .1)
 
 pub place-spec : {M : Type 1} → statement M
 place-spec =

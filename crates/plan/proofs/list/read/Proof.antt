@@ -6,7 +6,7 @@ use lib.ListN.{length}
 use borrow.Author.Needs.{needs}
 use Rattle.plan.specs.code.Reading.{Reading, reading-starts, reading-valid, reading-ends, reading-answers}
 use Rattle.plan.specs.code.Reading.{line-refuses, line-on, line-further}
-use Rattle.plan.specs.theorems.Numbers.{read-told}
+use Rattle.plan.specs.theorems.Conditions.{read-told}
 use Rattle.plan.proofs.list.read.Statement.{statement}
 use Rattle.plan.proofs.list.read.Tie as tie
 

@@ -2,7 +2,7 @@
 -- Assumes nothing.
 use borrow.Author.Needs.{needs}
 use borrow.Author.Tests.{not-true, not-false}
-use mathlib.Core.Path.{_≡_, refl}
+use mathlib.Core.Path.{_≡_}
 use mathlib.Core.Bool.{true}
 use Prim.Native.Nat.{_≤_}
 use native.Mathlib.Omega.{arith}
@@ -11,8 +11,7 @@ use denote.Ref.{now}
 use Rattle.plan.specs.rules.Sheet.{sheetOf, sheet-longest, longestSheet}
 use Rattle.plan.specs.rules.Plan.{sitesIn}
 use Rattle.plan.specs.code.PutLaws.{put-length}
-use Rattle.plan.specs.theorems.Numbers.{write-told}
-use Rattle.plan.specs.code.Filling.{filled-short, filled-copied, filled-written, filled-no-rival, filled-reads, valid-listed}
+use Rattle.plan.specs.code.Filling.{write-unplaced, write-short, write-copied, valid-listed}
 use Rattle.plan.proofs.sheet.write.Statement.{statement}
 use Rattle.plan.proofs.sheet.write.Tie as tie
 
@@ -25,7 +24,9 @@ sheet-fits : (c : tie.Start) → length (sheetOf (sitesIn (c .args .plan))) ≤ 
 sheet-fits c = sheet-longest (sitesIn (c .args .plan)) (valid-listed (c .pre))
 
 returns : tie.Need-returns
-returns c = rw (not-true (c .before .before .before .args .plan .placed) (c .if1 .taken)) (refl, (refl, (tt, (tt, (refl, refl)))))
+returns c =
+    let plan = c .before .before .before .args .plan in
+    write-unplaced plan (now (c .before .before .before .args .buffer)) (not-true (plan .placed) (c .if1 .taken))
 
 slice-aggregate-compose : tie.Need-slice-aggregate-compose
 slice-aggregate-compose c = search needs
@@ -37,10 +38,7 @@ returns-2 : tie.Need-returns-2
 returns-2 c =
     let composed = c .before .before in
     let start = composed .before .before .before .before .before in
-    let short = filled-short (sheetOf (sitesIn (start .args .plan))) (now (start .args .buffer))
-    (omega (arith, c .if2 .taken, composed .compose .ensures .next-is)) in
-    let is = filled-written (start .args .plan) (is-placed (composed .before .before)) short in
-    (is .0, (is .1, (tt, (tt, write-told (start .args .plan) (now (start .args .buffer)) (is .0)))))
+    write-short (start .pre) (is-placed (composed .before .before)) (omega (arith, c .if2 .taken, composed .compose .ensures .next-is))
 
 slice-aggregate-put-bytes : tie.Need-slice-aggregate-put-bytes
 slice-aggregate-put-bytes c = search needs
@@ -61,10 +59,8 @@ returns-3 c =
     let composed = c .before .before .before .before .before .before .before in
     let start = composed .before .before .before .before .before in
     let room = c .before .before .before .before .before .if2 .left in
-    let filled = filled-copied (composed .compose .ensures) (sheet-fits start) room (c .before .before .put-bytes .ensures) in
-    let is = filled-written (start .args .plan) (is-placed (composed .before .before)) filled in
-    let told = write-told (start .args .plan) (now (start .args .buffer)) (is .0) in
-    (is .0, (is .1, (filled-no-rival (start .pre) filled, (filled-reads (start .pre) filled, told))))
+    write-copied (start .pre) (is-placed (composed .before .before)) (composed .compose .ensures) (sheet-fits start) room
+    (c .before .before .put-bytes .ensures)
 
 pub write-spec : {M : Type 1} → statement M
 write-spec =

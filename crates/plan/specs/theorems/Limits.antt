@@ -1,0 +1,19 @@
+-- The limits as numbers: those that document 01 gives, and those that follow from them. A rule that gives a limit another value is refused
+-- here.
+-- Assumes nothing.
+use mathlib.Core.Path.{_≡_, refl}
+use Rattle.placing.specs.rules.Units.{mostSites, greatestCoordinate, greatestSide, freeSide}
+use Rattle.plan.specs.rules.Text.{mostLineBytes}
+use Rattle.plan.specs.rules.Name.{mostNameBytes}
+use Rattle.plan.specs.rules.List.{longestText}
+use Rattle.plan.specs.rules.Sheet.{longestSheet, shortestSheet}
+use Rattle.plan.specs.rules.Calls.{fullTable}
+
+-- Document 01's.
+pub limits-given : (mostSites ≡ 240) × (greatestCoordinate ≡ 10000) × (greatestSide ≡ 20000) × (freeSide ≡ 20001) × (mostNameBytes ≡ 8)
+    × (mostLineBytes ≡ 20) × (longestText ≡ 5061)
+limits-given = (refl, refl, refl, refl, refl, refl, refl)
+
+-- The work table of a full plan, and the bytes of a sheet.
+pub limits-following : (fullTable ≡ 57600) × (longestSheet ≡ 5531) × (shortestSheet ≡ 18)
+limits-following = (refl, refl, refl)

@@ -1,0 +1,54 @@
+-- Demand 3 in the picture: whoever takes a side above twice the number that a right sheet prints draws two labels that cover a common
+-- point.
+-- Assumes nothing.
+use mathlib.Core.Path.{_≡_}
+use mathlib.Core.List.{List}
+use mathlib.Core.Logic.{_≢_}
+use mathlib.Core.Option.{some}
+use Prim.Native.Nat.{ℕ, _*_, _≤_, _<_}
+use native.Mathlib.Omega.{arith}
+use lib.ListN.{length}
+use Rattle.placing.specs.declared.units.Place.{Place}
+use Rattle.placing.specs.rules.Units.{siteAt, Distinct}
+use Rattle.placing.specs.rules.Corners.{cornerAt, Corners}
+use Rattle.placing.specs.rules.Cover.{Point, Covers}
+use Rattle.placing.specs.rules.Choice.{MeetingPair}
+use Rattle.placing.specs.theorems.Common.{meet-exactly}
+use Rattle.plan.specs.rules.Site.{Site, Listed}
+use Rattle.plan.specs.rules.ReadOff.{numberOn, spotsOn}
+use Rattle.plan.specs.Demands.{RightSheet}
+
+-- The labels of some two of these places, at these corners and the side p/q, cover a common point.
+pub record CommonPoint (p q : ℕ) (ps : List Place) (cs : List ℕ) : Type 0 where
+  pub first : ℕ
+  pub second : ℕ
+  pub first-listed : first < length ps
+  pub second-listed : second < length ps
+  pub different : first ≢ second
+  pub point : Point
+  pub by-first : Covers p q (siteAt ps first) (cornerAt cs first) point
+  pub by-second : Covers p q (siteAt ps second) (cornerAt cs second) point
+
+-- Two labels that meet do.
+meeting-common : {p q : ℕ} {ps : List Place} {cs : List ℕ} → 1 ≤ p → 1 ≤ q → Distinct ps → MeetingPair p q ps cs → CommonPoint p q ps cs
+meeting-common {p} {q} some-p some-q places pair =
+    let differ = places .distinct (pair .first) (pair .second) (pair .first-listed) (pair .second-listed) (pair .different) in
+    let common = meet-exactly p q some-p some-q differ .0 (pair .meet) in
+    record {
+      first = pair .first;
+      second = pair .second;
+      first-listed = pair .first-listed;
+      second-listed = pair .second-listed;
+      different = pair .different;
+      point = common .0;
+      by-first = common .1;
+      by-second = common .2;
+    }
+
+-- So do those of every rival of a right sheet, for every number that it prints and every p/q above twice it.
+pub rivals-common : {sites : List Site} {sheet : List ℕ} → Listed sites → RightSheet sites sheet → (number p q : ℕ)
+    → numberOn sheet ≡ some number → 1 ≤ q → 2 * number * q < p → (corners : List ℕ) → Corners (length (spotsOn sheet)) corners
+    → CommonPoint p q (spotsOn sheet) corners
+rivals-common listed right number p q printed some-q above corners each =
+    meeting-common (omega arith) some-q (rw (right .spots) (listed .places-distinct))
+    (right .no-rival .rivals-meet number p q printed some-q above corners each)

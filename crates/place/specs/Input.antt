@@ -1,12 +1,11 @@
--- Reading the input: what an answer of `read` means, and what a list that may be answered is. `read`'s own contract, of the
--- library libc, says that it answers -1 or how many bytes it brought, 0 at the end of the input.
+-- Reading the input: what an answer of `read` means, and what reading leaves in the room. `read`'s own contract, of the library libc, says
+-- that it answers -1 or how many bytes it brought, 0 at the end of the input.
 -- Assumes nothing.
 use mathlib.Core.List.{List}
 use mathlib.Core.Path.{_≡_}
 use Prim.Native.Nat.{ℕ, zero, suc, _+_, _-_, _<_, _≤_}
 use lib.IntN.{ℤ, pos, negsuc}
 use lib.ListN.{length, take}
-use Rattle.plan.specs.rules.List.{longestText}
 use Rattle.place.specs.declared.Reading.{Reading}
 use Rattle.place.specs.declared.Step.{Step}
 use Rattle.place.specs.declared.Step.the-variants.{Got, Ended, Failed}
@@ -47,6 +46,13 @@ pub record Onward (from : ℕ) (before : List ℕ) (r : Reading) (room : List �
   pub kept : take from room ≡ take from before
   pub some : GotSome (r .last)
 
+-- Reads one after another, into a room that is empty at the start: while bytes may come, one read more, which puts its bytes behind those
+-- before it and leaves these as they were.
+pub data Reads (start : List ℕ) : Reading → List ℕ → Type 0 where
+  none-yet : Reads start (record { at = 0; last = Got 0 }) start
+  once-more : {r next : Reading} {room after : List ℕ} → Reads start r room → 0 < roomLeft r room → Onward (r .at) room next after
+      → Reads start next after
+
 -- Reading is over: the bytes lie within the room, and the room is full, or the input ended, or a read failed.
 pub record Finished (r : Reading) (room : List ℕ) : Type 0 where
   pub within : r .at ≤ length room
@@ -57,10 +63,3 @@ abbrev pub Sound : Step → Type 0
 Sound (Got n) = Unit {0}
 Sound Ended = Unit {0}
 Sound Failed = ⊥
-
--- A list that may be answered: reading is over, the room holds "at most 5,061 bytes; these already decide every longer text", and no
--- read failed.
-pub record Whole (r : Reading) (room : List ℕ) : Type 0 where
-  pub finished : Finished r room
-  pub room-for-all : length room ≡ longestText
-  pub sound : Sound (r .last)

@@ -2,3 +2,4 @@
 pub mod Input
 pub mod InputLaws
 pub mod Reply
+pub mod ReplyLaws

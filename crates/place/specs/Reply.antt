@@ -1,41 +1,49 @@
--- What the program writes: the output for the list read, whole, since no output is longer than the buffer that it lends.
+-- What the program answers with: the output for its whole input, or nothing where a read failed.
 -- Assumes nothing.
-use mathlib.Core.Path.{_≡_, refl}
-use mathlib.Core.Bool.{Bool, true, false}
+use mathlib.Core.Path.{_≡_}
 use mathlib.Core.List.{List}
 use Prim.Native.Nat.{ℕ, _≤_}
-use native.Mathlib.Omega.{arith}
-use borrow.Author.Tests.{ltb-true}
-use lib.Dec.{ltb}
-use lib.ListN.{length, take, drop, length-append}
-use lib.Seq.{take-append-seam}
-use Rattle.plan.specs.declared.plan.Written.{Written}
-use Rattle.plan.specs.declared.plan.Written.the-variants.{Bytes, NotWritten}
-use Rattle.plan.specs.rules.Calls.{filledWhere}
-use Rattle.plan.specs.rules.Sheet.{longestSheet}
-use Rattle.plan.specs.rules.Output.{outputOf, outputWhere, outputWritten, outputAfter}
-use Rattle.plan.specs.theorems.OutputLaws.{output-longest}
+use lib.ListN.{length, take}
+use Rattle.plan.specs.rules.List.{longestText}
+use Rattle.plan.specs.rules.Output.{outputOf}
+use Rattle.plan.specs.Demands.{Answered}
+use Rattle.place.specs.declared.Reading.{Reading}
+use Rattle.place.specs.declared.Answer.{Answer}
+use Rattle.place.specs.declared.Answer.the-variants.{Output, Unread}
+use Rattle.place.specs.declared.Step.the-variants.{Failed}
+use Rattle.place.specs.Input.{Reads, Finished, Sound}
 
--- How many bytes were written.
-abbrev pub lengthOf : Written → ℕ
-lengthOf (Bytes n) = n
-lengthOf (NotWritten why) = 0
-
--- The first n bytes of the buffer are the output for a list.
-pub record Replied (list : List ℕ) (n : ℕ) (buffer : List ℕ) : Type 0 where
+-- The first n bytes of the buffer are the output for every input of which the bytes read are the first 5,061: "these already decide
+-- every longer text". It meets the demands.
+pub record OutputFor (read : List ℕ) (n : ℕ) (buffer : List ℕ) : Type 0 where
   pub within : n ≤ length buffer
-  pub output : take n buffer ≡ outputOf list
+  pub output : (input : List ℕ) → take longestText input ≡ read → take n buffer ≡ outputOf input
+  pub answered : (input : List ℕ) → take longestText input ≡ read → Answered input (take n buffer)
 
--- A buffer for the longest sheet gets the output for every list.
-pub output-replied : {written : Written} {after : List ℕ} (list buffer : List ℕ) → written ≡ outputWritten list buffer
-    → after ≡ outputAfter list buffer → longestSheet ≤ length buffer → Replied list (lengthOf written) after
-output-replied list buffer is-written is-after room =
-    rw (is-written, is-after) (by-test (ltb (length buffer) (length (outputOf list))) refl)
-  where
-    by-test : (short : Bool) → ltb (length buffer) (length (outputOf list)) ≡ short
-        → Replied list (lengthOf (outputWhere short (outputOf list)))
-        (filledWhere (outputWhere short (outputOf list)) (outputOf list) buffer)
-    by-test true is = absurd (omega (arith, ltb-true (length buffer) (length (outputOf list)) is, output-longest list))
-    by-test false is =
-        let rest = drop (length (outputOf list)) buffer in
-        record { within = omega (arith, length-append (outputOf list) rest); output = take-append-seam (outputOf list) rest }
+-- The input was read into the room, which came with these bytes, by reads one after another, until reading was over; "at most 5,061
+-- bytes".
+pub record InputRead (start room : List ℕ) (reading : Reading) : Type 0 where
+  pub reads : Reads start reading room
+  pub finished : Finished reading room
+  pub size : length room ≡ longestText
+
+-- No read failed, and the buffer has the output for what stands in the room.
+pub record Whole (start room : List ℕ) (reading : Reading) (n : ℕ) (buffer : List ℕ) : Type 0 where
+  pub input-read : InputRead start room reading
+  pub sound : Sound (reading .last)
+  pub output-for : OutputFor (take (reading .at) room) n buffer
+
+-- The last read failed.
+pub record CutShort (start room : List ℕ) (reading : Reading) : Type 0 where
+  pub input-read : InputRead start room reading
+  pub failed : reading .last ≡ Failed
+
+-- The answer, by the room before and afterwards and the buffer afterwards.
+abbrev pub Replied : (start room : List ℕ) → Answer → List ℕ → Type 0
+Replied start room (Output reading n) buffer = Whole start room reading n buffer
+Replied start room (Unread reading) buffer = CutShort start room reading
+
+-- What is to be written lies within the buffer.
+abbrev pub Within : Answer → List ℕ → Type 0
+Within (Output reading n) buffer = n ≤ length buffer
+Within (Unread reading) buffer = Unit {0}

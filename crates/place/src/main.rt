@@ -4,14 +4,12 @@ use libc::STDIN_FILENO;
 use libc::STDOUT_FILENO;
 use plan::limits::TextLimits;
 use plan::output::output;
-use plan::plan::Written;
-ghost use Prim.Native.Nat.{_≤_, _<_};
 ghost use mathlib.Core.Path.{_≡_};
-ghost use lib.ListN.{length, take};
-ghost use Rattle.place.specs.Input.{Finished, Onward, Whole, bytesOf, roomLeft, stepOf};
-ghost use Rattle.plan.specs.rules.Sheet.{longestSheet};
+ghost use Prim.Native.Nat.{_≤_, _<_};
+ghost use lib.ListN.{length};
+ghost use Rattle.place.specs.Input.{Finished, Onward, Reads, bytesOf, roomLeft, stepOf};
 ghost use Rattle.plan.specs.rules.List.{longestText};
-ghost use Rattle.place.specs.Reply.{Replied, lengthOf};
+ghost use Rattle.place.specs.Reply.{Replied, Within};
 
 // What one read did: it brought so many bytes, or found the end of the input, or failed.
 enum Step {
@@ -24,6 +22,12 @@ enum Step {
 struct Reading {
     at: usize,
     last: Step,
+}
+
+// What came of reading the input: an output of so many bytes, or none, since a read failed.
+enum Answer {
+    Output(Reading, usize),
+    Unread(Reading),
 }
 
 // What an answer of `read` means.
@@ -79,7 +83,8 @@ fn read_once(text: &mut [u8], at: usize) -> Reading
 
 // Reads until the input ends, a read fails or the room is full, however the bytes arrive.
 fn read_input(text: &mut [u8]) -> Reading
-    ensures { λ r. ⌜ Finished r (now (text .exit)) ⌝ }
+    ensures reads { λ r. ⌜ Reads (now (text .entry)) r (now (text .exit)) ⌝ }
+    ensures finished { λ r. ⌜ Finished r (now (text .exit)) ⌝ }
 {
     let mut reading = Reading {
         at: 0,
@@ -91,56 +96,36 @@ fn read_input(text: &mut [u8]) -> Reading
     reading
 }
 
-// How many bytes were written.
-fn length_of(written: Written) -> usize
-    ensures { λ r. ⌜ r ≡ lengthOf written ⌝ }
+// Reads the list into the room and puts its output into the buffer. The bytes read decide every longer text. A list cut short by a
+// failed read has no output.
+fn reply(text: &mut [u8], buffer: &mut [u8; TextLimits::SHEET]) -> Answer
+    requires { ⌜ length (now text) ≡ longestText ⌝ }
+    ensures { λ r. ⌜ Replied (now (text .entry)) (now (text .exit)) r (now (buffer .exit)) ⌝ }
 {
-    match written {
-        Written::Bytes(n) => n,
-        Written::NotWritten(_) => 0,
+    let reading = read_input(text);
+    let last = reading.last;
+    if let Step::Failed = last {
+        return Answer::Unread(reading);
     }
-}
-
-// Puts the output for a list that no failed read cut short into a buffer, and hands back its length.
-fn reply(reading: Reading, text: &[u8], buffer: &mut [u8]) -> usize
-    requires { ⌜ Whole reading (now text) × (longestSheet ≤ length (now buffer)) ⌝ }
-    ensures { λ n. ⌜ Replied (take (reading .at) (now (text .entry))) n (now (buffer .exit)) ⌝ }
-{
     let n = reading.at;
-    length_of(output(&text[..n], buffer))
+    Answer::Output(reading, output(&text[..n], buffer))
 }
 
-// Writes the output.
-fn write_output(output: &[u8]) {
-    if !io::write_all(STDOUT_FILENO, output) {
+// Writes the answer: the output, or a line on standard error where there is none or it cannot be written.
+fn write_answer(answer: Answer, buffer: [u8; TextLimits::SHEET])
+    requires { ⌜ Within answer buffer ⌝ }
+{
+    let Answer::Output(_, n) = answer else {
+        io::write_all(STDERR_FILENO, b"place: standard input cannot be read\n");
+        return;
+    };
+    if !io::write_all(STDOUT_FILENO, &buffer[..n]) {
         io::write_all(STDERR_FILENO, b"place: standard output cannot be written\n");
     }
 }
 
-// Answers the list that stands at the start of the room, whole.
-fn answer_list(reading: Reading, text: &[u8])
-    requires { ⌜ Whole reading (now text) ⌝ }
-{
-    let mut buffer = [0u8; TextLimits::SHEET];
-    let n = reply(reading, text, &mut buffer);
-    write_output(&buffer[..n]);
-}
-
-// Answers what was read. A list cut short by a failed read yields no sheet.
-fn answer(reading: Reading, text: &[u8])
-    requires { ⌜ Finished reading (now text) × (length (now text) ≡ longestText) ⌝ }
-{
-    let last = reading.last;
-    if let Step::Failed = last {
-        io::write_all(STDERR_FILENO, b"place: standard input cannot be read\n");
-    } else {
-        answer_list(reading, text);
-    }
-}
-
-// The bytes read decide every longer text.
 fn main() {
     let mut text = [0u8; TextLimits::TEXT];
-    let reading = read_input(&mut text);
-    answer(reading, &text);
+    let mut buffer = [0u8; TextLimits::SHEET];
+    write_answer(reply(&mut text, &mut buffer), buffer);
 }

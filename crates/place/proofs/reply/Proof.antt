@@ -1,36 +1,84 @@
--- `place::reply` meets its contract: what `output` leaves in the buffer is the output, whole.
+-- `place::reply` meets its contract: a failed read cut the list short, or what `output` leaves in the buffer is the output for the whole
+-- input.
 -- Assumes nothing.
+use mathlib.Core.Logic.{⊎-elim}
+use mathlib.Core.List.{[], _∷_}
 use mathlib.Core.Path.{sym}
-use lib.Seq.{length-take-le}
 use native.Mathlib.Omega.{arith}
+use lib.Seq.{length-take-le}
+use denote.Enum.Declared.{tagOf}
 use denote.Ref.{now}
+use types.Run.{OneOf}
 use borrow.Author.Needs.{needs}
-use Rattle.place.specs.Reply.{output-replied}
+use Rattle.place.specs.declared.Step.{Step}
+use Rattle.place.specs.declared.Step.the-variants.{Got, Ended, Failed}
+use Rattle.place.specs.Input.{Sound}
+use Rattle.place.specs.Reply.{InputRead}
+use Rattle.place.specs.ReplyLaws.{output-for}
+use Rattle.place.proofs.Step as step
 use Rattle.place.proofs.reply.Statement.{statement}
 use Rattle.place.proofs.reply.Tie as tie
 
-slice-aggregate-output : tie.Need-slice-aggregate-output
-slice-aggregate-output c =
-    let start = c .before .before .before in
-    sym (length-take-le _ (start .args .text .now) (omega (arith, start .pre .0 .finished .within)))
+-- A step whose place among the variants is that of `Got` or `Ended` is no failure.
+unfailed : (s : Step) → OneOf (0 ∷ 1 ∷ []) (tagOf step.the-type s) → Sound s
+unfailed (Got n) key = tt
+unfailed Ended key = tt
+unfailed Failed key = ⊎-elim (λ e. omega arith) (λ e. omega arith) key
 
-output-requires : tie.Need-output-requires
-output-requires c κs = search needs
+read-input-requires : tie.Need-read-input-requires
+read-input-requires c κs = search needs
 
-length-of-requires : tie.Need-length-of-requires
-length-of-requires c κs = search needs
+enum-told : tie.Need-enum-told
+enum-told c = search needs
 
 same-length : tie.Need-same-length
 same-length c = search needs
 
+-- The input was read.
+input-read : (c : tie.After-slice-known2)
+    → InputRead (now (c .before .before .before .before .before .args .text)) (c .before .before .read-input .last .0)
+    (c .before .before .read-input .result)
+input-read c =
+    let read = c .before .before .read-input in
+    record { reads = read .ensures .0; finished = read .ensures .1; size = search needs }
+
 returns : tie.Need-returns
-returns c =
-    let at-output = c .before .before .before .output in
-    let start = c .before .before .before .before .before .before .before .before in
-    rw (c .length-of .ensures)
-    (output-replied _ (now (start .args .buffer)) (at-output .ensures .0) (at-output .ensures .1 .0) (start .pre .1))
+returns c = record { input-read = input-read (c .before .before); failed = c .enum-told .given .1 }
+
+slice-reshare-prefix-output : tie.Need-slice-reshare-prefix-output
+slice-reshare-prefix-output c = search needs
+
+slice-aggregate-output : tie.Need-slice-aggregate-output
+slice-aggregate-output c =
+    let known = c .before .before in
+    sym (length-take-le _ (known .before .before .read-input .last .0) (omega (arith, input-read known .finished .within)))
+
+output-requires : tie.Need-output-requires
+output-requires c κs = search needs
+
+same-length-2 : tie.Need-same-length-2
+same-length-2 c = search needs
+
+returns-2 : tie.Need-returns-2
+returns-2 c =
+    let match = c .before .before .before in
+    let known = match .before in
+    record {
+      input-read = input-read known;
+      sound = unfailed (known .before .before .read-input .result .last) (match .match .keys2);
+      output-for = output-for _ _ (c .output .ensures .0) (c .output .ensures .1 .0);
+    }
 
 pub reply-spec : {M : Type 1} → statement M
 reply-spec =
     tie.close
-    (tie.spec slice-aggregate-output output-requires length-of-requires same-length returns)
+    (tie.spec
+    read-input-requires
+    enum-told
+    same-length
+    returns
+    slice-reshare-prefix-output
+    slice-aggregate-output
+    output-requires
+    same-length-2
+    returns-2)

@@ -10,6 +10,8 @@
 extern "C" {
 #endif
 
+/* callers/run compares these three numbers with those that the proved program known_answers prints. */
+
 /* No sheet is shorter: a number below this is a refusal. */
 #define LEMONCANYON_SHORTEST 18
 
@@ -25,10 +27,10 @@ extern "C" {
    written; neither pointer is null, even with length 0; the two do not overlap, and nothing else changes them during the call.
    The call keeps nothing, calls only memcpy and memset, and needs at most 120 KB of stack (measured, not proved).
 
-   18 or more: the length of the sheet. The buffer holds the sheet from its first byte on, the same bytes that the program `place`
-   writes for this list, and every byte after it is as it came.
+   LEMONCANYON_SHORTEST or more: the length of the sheet. The buffer holds the sheet from its first byte on, the same bytes that the
+   program `place` writes for this list, and every byte after it is as it came.
 
-   Below 18: the number of the refusal. Every byte of the buffer is as it came.
+   Below LEMONCANYON_SHORTEST: the number of the refusal. Every byte of the buffer is as it came.
      1  a line of other than three fields, over 20 bytes, or without its line feed
      2  a name outside the rule
      3  a coordinate outside the rule

@@ -3,15 +3,14 @@
 use mathlib.Core.Path.{_≡_, refl, sym, ap, _∙_, subst}
 use mathlib.Core.List.{List}
 use Prim.Native.Nat.{ℕ, _≤_}
-use native.Mathlib.Omega.{arith}
-use lib.ListN.{length, take, drop, length-append}
+use lib.ListN.{length, take, drop}
 use lib.Seq.{take-at}
 use Rattle.plan.specs.rules.List.{longestText}
 use Rattle.plan.specs.rules.Calls.{filledWith}
 use Rattle.plan.specs.rules.Output.{outputOf}
 use Rattle.plan.specs.Demands.{Answered}
 use Rattle.plan.specs.theorems.Longer.{output-first}
-use Rattle.plan.specs.theorems.OutputLaws.{output-answered}
+use Rattle.plan.specs.theorems.OutputLaws.{output-answered, output-within}
 use Rattle.place.specs.declared.Answer.{Answer}
 use Rattle.place.specs.declared.Answer.the-variants.{Output, Unread}
 use Rattle.place.specs.Reply.{OutputFor, Replied, Within}
@@ -21,7 +20,7 @@ pub output-for : {n : ℕ} {after : List ℕ} (read buffer : List ℕ) → n ≡
     → OutputFor read n after
 output-for {n} {after} read buffer size is =
     record {
-      within = omega (arith, ap length is, length-append (outputOf read) (drop (length (outputOf read)) buffer));
+      within = output-within read buffer size is;
       output = whole;
       answered = λ input first. subst (Answered input) (sym (whole input first)) (output-answered input);
     }

@@ -1,10 +1,11 @@
--- A sheet of sites by the rules is right, and the output for a text meets the three demands and is at most 5,531 bytes long.
+-- A sheet of sites by the rules is right, and the output for a text meets the three demands, is at most 5,531 bytes long and lies
+-- within the array that it is put into.
 -- Assumes nothing.
 use mathlib.Core.Path.{_≡_, refl, sym, ap, _∙_, subst}
 use mathlib.Core.List.{List, [], _∷_}
 use Prim.Native.Nat.{ℕ, _≤_}
 use native.Mathlib.Omega.{arith}
-use lib.ListN.{length}
+use lib.ListN.{length, drop, length-append}
 use Rattle.placing.specs.rules.Answer.{answerOf, answer-is}
 use Rattle.plan.specs.declared.plan.Planned.{Planned}
 use Rattle.plan.specs.declared.refusal.Refusal.the-variants.{NoSites}
@@ -12,6 +13,7 @@ use Rattle.plan.specs.rules.Site.{Site, placesOf, Listed}
 use Rattle.plan.specs.rules.Enter.{Sites, accepted, refused}
 use Rattle.plan.specs.rules.List.{readList, listText, read-listed, read-list}
 use Rattle.plan.specs.rules.Sheet.{sheetOf, sheet-longest, longestSheet}
+use Rattle.plan.specs.rules.Calls.{filledWith}
 use Rattle.plan.specs.rules.Output.{refusalLine, listPlaced, outputFor, outputOf, output-sheet}
 use Rattle.plan.specs.code.Refusing.{refusal-short}
 use Rattle.plan.specs.Demands.{
@@ -91,3 +93,9 @@ output-longest text = by-sites (readList text) refl
     by-sites (accepted []) read = omega (arith, refusal-short NoSites)
     by-sites (accepted (site ∷ sites)) read = sheet-longest (site ∷ sites) (read-listed text (site ∷ sites) read)
     by-sites (refused why) read = omega (arith, refusal-short why)
+
+-- What is put into an array lies within it.
+pub output-within : {n : ℕ} {after : List ℕ} (text buffer : List ℕ) → n ≡ length (outputOf text)
+    → after ≡ filledWith (outputOf text) buffer → n ≤ length after
+output-within text buffer size is =
+    omega (arith, ap length is, length-append (outputOf text) (drop (length (outputOf text)) buffer))

@@ -10,7 +10,7 @@
 extern "C" {
 #endif
 
-/* callers/run compares these three numbers with those that the proved program known_answers prints. */
+/* callers/run compares these three numbers with those of the proved programs. */
 
 /* No sheet is shorter: a number below this is a refusal. */
 #define LEMONCANYON_SHORTEST 18

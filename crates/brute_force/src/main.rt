@@ -1,4 +1,5 @@
-// Random small lists, each answered by the product and by enumeration. The answers are compared, and the counts printed.
+// Random small lists, each answered by the product and by enumeration. The sheets are compared, and the counts printed; then the same
+// with answers that are meant to come out wrong.
 mod counts;
 mod enumerate;
 mod lists;
@@ -8,11 +9,13 @@ mod sheet;
 mod sites;
 mod text;
 mod trial;
+mod wrong;
 
 use crate::counts::Counts;
 use crate::counts::print_counts;
 use crate::random::SEED;
 use crate::trial::trial;
+use crate::wrong::print_wrong;
 
 const LISTS: u32 = 4_000;
 
@@ -23,4 +26,5 @@ fn main() {
         counts = trial(&mut state, counts);
     }
     print_counts(counts);
+    print_wrong();
 }

@@ -1,29 +1,18 @@
-// The product's answer, through list text and sheet text.
-use crate::sheet::read_sheet;
-use crate::sites::Answer;
+// The product's output, through list text.
 use crate::sites::Sites;
 use crate::text::LIST_BYTES;
 use crate::text::put_list;
+use plan::limits::TextLimits;
 use plan::output::output;
-use plan::plan::Written;
 ghost use Prim.Native.Nat.{_≤_};
+ghost use Rattle.io.specs.Counts.{Counts};
 
-// How many bytes a sheet of seven sites fits into: its first line takes at most 11, each other 16.
-const SHEET_BYTES: usize = 123;
-
-// The answer on the sheet for these sites; side 0 where there is no sheet.
-pub fn placed(sites: Sites) -> Answer
+// Writes the output for these sites into the buffer and gives its length.
+pub fn put_output(buffer: &mut [u8; TextLimits::SHEET], sites: Sites) -> usize
     requires { ⌜ sites .n ≤ 7 ⌝ }
+    ensures { λ r. ⌜ Counts r (now (buffer .exit)) ⌝ }
 {
     let mut list = [0u8; LIST_BYTES];
     let len = put_list(&mut list, sites);
-    let mut sheet = [0u8; SHEET_BYTES];
-    let written = output(&list[..len], &mut sheet);
-    let Written::Bytes(n) = written else {
-        return Answer {
-            side: 0,
-            corners: [0u8; 7],
-        };
-    };
-    read_sheet(&sheet[..n], sites.n)
+    output(&list[..len], buffer)
 }

@@ -1,89 +1,58 @@
-// Reading an answer off a sheet's bytes.
+// The sheet of an answer, written from document 01 alone.
 use crate::sites::Answer;
 use crate::sites::FREE;
-ghost use Prim.Native.Nat.{_≤_};
+use crate::sites::Place;
+use crate::sites::Sites;
+use crate::text::put_site;
+use test_text::put;
+use test_text::put_bytes;
+use test_text::put_decimal;
+ghost use Prim.Native.Nat.{_≤_, _<_};
+ghost use lib.ListN.{length};
+ghost use Rattle.io.specs.Counts.{Counts};
 
-// The byte at an index, or 0 past the end.
-fn byte_at(sheet: &[u8], at: usize) -> u8 {
-    if at < sheet.len() { sheet[at] } else { 0 }
+// How many bytes a sheet of seven sites fits into: its first line takes at most 11, each other 16.
+pub const SHEET_BYTES: usize = 123;
+
+fn put_size(out: &mut [u8], at: usize, side: u64) -> usize {
+    if side == FREE {
+        put_bytes(out, at, b"free")
+    } else {
+        put_decimal(out, at, side)
+    }
 }
 
-// The number with one more digit, or a number above 20,000 where the byte is above the digits.
-fn with_digit(value: u64, byte: u8) -> u64
-    requires { ⌜ (value ≤ 20000) × (48 ≤ byte) ⌝ }
+// The first line.
+fn put_side(out: &mut [u8], side: u64) -> usize
+    ensures { λ r. ⌜ r ≤ length (now (out .entry)) ⌝ }
 {
-    if b'9' < byte {
-        return FREE;
-    }
-    value * 10 + (byte - b'0') as u64
+    let word = put_bytes(out, 0, b"side\t");
+    let end = put_size(out, word, side);
+    put(out, end, b'\n')
 }
 
-// The number from byte 5 on: up to 20,000, else 0.
-fn side_number(sheet: &[u8]) -> u64 {
-    let mut value: u64 = 0;
-    for i in 5..10 {
-        let byte = byte_at(sheet, i);
-        if byte < b'0' {
-            return value;
-        }
-        value = with_digit(value, byte);
-        if 20_000 < value {
-            return 0;
-        }
-    }
-    value
-}
-
-// The side in the first line: FREE for the word free, 0 where there is no side. A sheet begins with the word side.
-fn read_side(sheet: &[u8]) -> u64 {
-    if byte_at(sheet, 0) != b's' {
-        return 0;
-    }
-    if byte_at(sheet, 5) == b'f' {
-        return FREE;
-    }
-    side_number(sheet)
-}
-
-// Where the first line feed from `from` on stands, or the length where there is none.
-fn line_end(sheet: &[u8], from: usize) -> usize
-    ensures { λ r. do ⌜ r ≤ (← ⟦sheet.len()⟧ .entry) ⌝ }
+// The line of site `i`.
+fn put_line(out: &mut [u8], at: usize, i: usize, place: Place, corner: u8) -> usize
+    requires { ⌜ i < 7 ⌝ }
+    ensures { λ r. ⌜ r ≤ length (now (out .entry)) ⌝ }
 {
-    let mut at = from;
-    while at < sheet.len() {
-        if sheet[at] == b'\n' {
-            return at;
-        }
-        at += 1;
-    }
-    sheet.len()
+    let site = put_site(out, at, i, place);
+    let from = put(out, site, b'\t');
+    let end = put_decimal(out, from, corner as u64);
+    put(out, end, b'\n')
 }
 
-// The digit before this index, or 0 where there is none.
-fn digit_before(sheet: &[u8], end: usize) -> u8 {
-    if end == 0 {
-        return 0;
-    }
-    let byte = byte_at(sheet, end - 1);
-    if byte < b'0' {
-        return 0;
-    }
-    byte - b'0'
-}
-
-// The side, and the corner at the end of each of the `n` lines under it.
-pub fn read_sheet(sheet: &[u8], n: usize) -> Answer
-    requires { ⌜ n ≤ 7 ⌝ }
+// Writes the sheet of these sites with this answer into `out` and gives its length.
+pub fn put_sheet(out: &mut [u8], sites: Sites, answer: Answer) -> usize
+    requires { ⌜ sites .n ≤ 7 ⌝ }
+    ensures { λ r. ⌜ Counts r (now (out .exit)) ⌝ }
 {
-    let side = read_side(sheet);
-    let mut corners = [0u8; 7];
-    let mut end = line_end(sheet, 0);
+    let n = sites.n;
+    let places = sites.places;
+    let corners = answer.corners;
+    let mut at = put_side(out, answer.side);
     for i in 0..n {
-        end = line_end(sheet, end + 1);
-        corners[i] = digit_before(sheet, end);
+        at = put_line(out, at, i, places[i], corners[i]);
     }
-    Answer {
-        side: side,
-        corners: corners,
-    }
+    at
 }

@@ -15,27 +15,10 @@ pub struct Sites {
 // The side that stands for free: a choice that is good there is good at every side.
 pub const FREE: u64 = 20_001;
 
-// A side from 1 to 20,000 or FREE, and a corner for each site. Side 0 is no answer.
+// A side from 1 to 20,000 or FREE, and a corner for each site.
 pub struct Answer {
     pub side: u64,
     pub corners: [u8; 7],
-}
-
-// Two answers to a list of `n` sites agree.
-pub fn same_answer(a: Answer, b: Answer, n: usize) -> bool
-    requires { ⌜ n ≤ 7 ⌝ }
-{
-    if a.side != b.side {
-        return false;
-    }
-    let first = a.corners;
-    let second = b.corners;
-    for i in 0..n {
-        if first[i] != second[i] {
-            return false;
-        }
-    }
-    true
 }
 
 fn same_place(p: Place, q: Place) -> bool {

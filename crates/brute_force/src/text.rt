@@ -1,6 +1,8 @@
 // A list as text. The sites are named A, B, C and so on.
 use crate::sites::Place;
 use crate::sites::Sites;
+use test_text::put;
+use test_text::put_decimal;
 ghost use Prim.Native.Nat.{_≤_, _<_};
 ghost use lib.ListN.{length};
 ghost use Rattle.io.specs.Counts.{Counts};
@@ -8,50 +10,25 @@ ghost use Rattle.io.specs.Counts.{Counts};
 // How many bytes a list of seven sites fits into: a line takes at most 14.
 pub const LIST_BYTES: usize = 98;
 
-// Writes one byte at an index, where there is room, and gives the index after it.
-fn put(out: &mut [u8], at: usize, byte: u8) -> usize
-    requires { ⌜ at ≤ length (now out) ⌝ }
-    ensures { λ r. ⌜ r ≤ length (now (out .entry)) ⌝ }
-{
-    if at < out.len() {
-        out[at] = byte;
-        return at + 1;
-    }
-    at
-}
-
-// The same for several bytes.
-fn put_bytes(out: &mut [u8], at: usize, bytes: &[u8]) -> usize
-    requires { ⌜ at ≤ length (now out) ⌝ }
-    ensures { λ r. ⌜ r ≤ length (now (out .entry)) ⌝ }
-{
-    let mut end = at;
-    for i in 0..bytes.len() {
-        end = put(out, end, bytes[i]);
-    }
-    end
-}
-
-fn put_decimal(out: &mut [u8], at: usize, number: u32) -> usize
-    requires { ⌜ at ≤ length (now out) ⌝ }
-    ensures { λ r. ⌜ r ≤ length (now (out .entry)) ⌝ }
-{
-    let mut digits = [0u8; 20];
-    let n = io::decimal(number as u64, &mut digits);
-    put_bytes(out, at, &digits[..n])
-}
-
-// The line of site `i`.
-fn put_site(out: &mut [u8], at: usize, i: usize, place: Place) -> usize
-    requires { ⌜ (at ≤ length (now out)) × (i < 7) ⌝ }
+// Name, x and y of site `i`.
+pub fn put_site(out: &mut [u8], at: usize, i: usize, place: Place) -> usize
+    requires { ⌜ i < 7 ⌝ }
     ensures { λ r. ⌜ r ≤ length (now (out .entry)) ⌝ }
 {
     let named = put(out, at, b'A' + (i as u8));
     let x = put(out, named, b'\t');
-    let after_x = put_decimal(out, x, place.x);
+    let after_x = put_decimal(out, x, place.x as u64);
     let y = put(out, after_x, b'\t');
-    let after_y = put_decimal(out, y, place.y);
-    put(out, after_y, b'\n')
+    put_decimal(out, y, place.y as u64)
+}
+
+// The line of site `i`.
+fn put_line(out: &mut [u8], at: usize, i: usize, place: Place) -> usize
+    requires { ⌜ i < 7 ⌝ }
+    ensures { λ r. ⌜ r ≤ length (now (out .entry)) ⌝ }
+{
+    let end = put_site(out, at, i, place);
+    put(out, end, b'\n')
 }
 
 // Writes the list into `out` and gives its length.
@@ -63,7 +40,7 @@ pub fn put_list(out: &mut [u8], sites: Sites) -> usize
     let places = sites.places;
     let mut at = 0;
     for i in 0..n {
-        at = put_site(out, at, i, places[i]);
+        at = put_line(out, at, i, places[i]);
     }
     at
 }

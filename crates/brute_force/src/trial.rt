@@ -1,4 +1,4 @@
-// One list: both answers, compared and counted.
+// One list: the product's sheet and the one by enumeration, compared and counted.
 use crate::counts::Counts;
 use crate::counts::count;
 use crate::counts::is_even;
@@ -7,31 +7,16 @@ use crate::counts::is_odd;
 use crate::enumerate::enumerate;
 use crate::enumerate::holds_above_twice;
 use crate::lists::draw_sites;
-use crate::product::placed;
+use crate::product::put_output;
+use crate::sheet::SHEET_BYTES;
+use crate::sheet::put_sheet;
 use crate::sites::Answer;
 use crate::sites::Sites;
 use crate::sites::in_one_row;
-use crate::sites::same_answer;
 use crate::text::LIST_BYTES;
 use crate::text::put_list;
+use plan::limits::TextLimits;
 ghost use Prim.Native.Nat.{_≤_};
-
-fn print_corner(corner: u8) {
-    io::write_all(1, b"\t");
-    io::print_decimal(1, corner as u64);
-}
-
-fn print_answer(who: &[u8], answer: Answer, n: usize)
-    requires { ⌜ n ≤ 7 ⌝ }
-{
-    let corners = answer.corners;
-    io::write_all(1, who);
-    io::print_decimal(1, answer.side);
-    for i in 0..n {
-        print_corner(corners[i]);
-    }
-    io::write_all(1, b"\n");
-}
 
 fn print_list(why: &[u8], sites: Sites)
     requires { ⌜ sites .n ≤ 7 ⌝ }
@@ -42,17 +27,22 @@ fn print_list(why: &[u8], sites: Sites)
     io::write_all(1, &list[..len]);
 }
 
-// The answers differ. If so, the list and both answers are printed.
-fn differs(sites: Sites, right: Answer, answer: Answer) -> bool
+// The product's output is not the sheet of this answer, byte for byte. If so, the list and both are printed.
+fn differs(sites: Sites, right: Answer) -> bool
     requires { ⌜ sites .n ≤ 7 ⌝ }
 {
-    let n = sites.n;
-    if same_answer(right, answer, n) {
+    let mut came = [0u8; TextLimits::SHEET];
+    let n = put_output(&mut came, sites);
+    let mut should = [0u8; SHEET_BYTES];
+    let m = put_sheet(&mut should, sites, right);
+    if check::same(&came[..n], &should[..m]) {
         return false;
     }
     print_list(b"difference\n", sites);
-    print_answer(b"enumerated\t", right, n);
-    print_answer(b"placed\t", answer, n);
+    io::write_all(1, b"should be\n");
+    io::write_all(1, &should[..m]);
+    io::write_all(1, b"came\n");
+    io::write_all(1, &came[..n]);
     true
 }
 
@@ -70,11 +60,10 @@ fn above_twice(sites: Sites, side: u64) -> bool
     true
 }
 
-// Draws a list, answers it both ways and counts it.
-pub fn trial(state: &mut u64, counts: Counts) -> Counts {
-    let sites = draw_sites(state);
-    let right = enumerate(sites);
-    let answer = placed(sites);
+// Judges the product by this answer for a list, and counts the list.
+pub fn judged(counts: Counts, sites: Sites, right: Answer) -> Counts
+    requires { ⌜ (sites .n ≤ 7) × (right .side ≤ 20001) ⌝ }
+{
     let side = right.side;
     Counts {
         lists: count(counts.lists, true),
@@ -83,6 +72,12 @@ pub fn trial(state: &mut u64, counts: Counts) -> Counts {
         odd: count(counts.odd, is_odd(side)),
         in_one_row: count(counts.in_one_row, in_one_row(sites)),
         above_twice: count(counts.above_twice, above_twice(sites, side)),
-        differences: count(counts.differences, differs(sites, right, answer)),
+        differences: count(counts.differences, differs(sites, right)),
     }
+}
+
+// Draws a list and judges the product by enumeration.
+pub fn trial(state: &mut u64, counts: Counts) -> Counts {
+    let sites = draw_sites(state);
+    judged(counts, sites, enumerate(sites))
 }

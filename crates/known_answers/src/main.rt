@@ -1,25 +1,20 @@
-// Document 01's known answers that are not marked P, and what a plan does from one call to the next, asked of the public calls
-// and compared: a line for each case with what came and what should have, then how many came right. The number of an accepted
-// call is 0.
-mod entering;
-mod lists;
-mod numbers;
-mod outputs;
-mod placings;
-mod reading;
-mod tally;
+// Known answers: each line of the standard input that has a `=` is a question to the public calls and what the answer should be. The
+// program prints each question with the answer that came, and whether it is the one; other lines it prints as they are. The calls of
+// one question after another act on one plan.
+mod answers;
+mod calls;
+mod cases;
+mod limits;
+mod names;
+mod question;
+mod sites;
+mod words;
 
-use crate::entering::entering;
-use crate::outputs::outputs;
-use crate::placings::placings;
-use crate::reading::reading;
-use crate::tally::Tally;
-use crate::tally::print_tally;
+use crate::cases::asked_all;
+use libc::STDIN_FILENO;
 
 fn main() {
-    let entered = entering(Tally::none());
-    let read = reading(entered);
-    let asked = placings(read);
-    let all = outputs(asked);
-    print_tally(all);
+    let mut cases = [0u8; 16384];
+    let n = io::read_full(STDIN_FILENO, &mut cases);
+    asked_all(&cases[..n]);
 }

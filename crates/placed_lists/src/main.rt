@@ -1,5 +1,5 @@
 // Places document 01's lists that are marked P, and some at the limits, and prints a line for each: the side, then the corners
-// of the first sites.
+// of the first sites. The last list is meant to come out wrong: two of its sites stand at one place.
 mod lists;
 mod print;
 mod ready;
@@ -20,4 +20,5 @@ fn main() {
     print_placed(line(0, 0, 10_000, 10_000, 2), 2);
     print_placed(line(0, 0, 1, 0, 240), 240);
     print_placed(grid(15, 240), 240);
+    print_placed(line(5, 5, 0, 0, 2), 2);
 }

@@ -31,6 +31,9 @@ loop-again c = search needs
 print-counts-requires : tie.Need-print-counts-requires Inv-loop μ-loop
 print-counts-requires c κs = search needs
 
+print-wrong-requires : tie.Need-print-wrong-requires Inv-loop μ-loop
+print-wrong-requires c κs = search needs
+
 returns : tie.Need-returns Inv-loop μ-loop
 returns c = search needs
 
@@ -47,4 +50,5 @@ main-spec =
     loop-less
     loop-again
     print-counts-requires
+    print-wrong-requires
     returns)

@@ -16,14 +16,14 @@ abbrev μ-loop : tie.MeasureT-loop
 loop-holds : tie.Need-loop-holds Inv-loop μ-loop
 loop-holds c = search needs
 
-mul-put-site : tie.Need-mul-put-site Inv-loop μ-loop
-mul-put-site c = search needs
+mul-put-line : tie.Need-mul-put-line Inv-loop μ-loop
+mul-put-line c = search needs
 
-array-copy-out-put-site : tie.Need-array-copy-out-put-site Inv-loop μ-loop
-array-copy-out-put-site c = search needs
+array-copy-out-put-line : tie.Need-array-copy-out-put-line Inv-loop μ-loop
+array-copy-out-put-line c = search needs
 
-put-site-requires : tie.Need-put-site-requires Inv-loop μ-loop
-put-site-requires c κs = search needs
+put-line-requires : tie.Need-put-line-requires Inv-loop μ-loop
+put-line-requires c κs = search needs
 
 add-i : tie.Need-add-i Inv-loop μ-loop
 add-i c = search needs
@@ -47,9 +47,9 @@ put-list-spec =
     Inv-loop
     μ-loop
     loop-holds
-    mul-put-site
-    array-copy-out-put-site
-    put-site-requires
+    mul-put-line
+    array-copy-out-put-line
+    put-line-requires
     add-i
     loop-less
     loop-again

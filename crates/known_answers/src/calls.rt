@@ -1,0 +1,151 @@
+// The public calls, asked one after another of one plan.
+use crate::answers::put_corner;
+use crate::answers::put_number;
+use crate::answers::put_outcome;
+use crate::answers::put_quoted;
+use crate::answers::put_side;
+use crate::answers::put_written;
+use crate::limits::limit;
+use crate::names::put_names;
+use crate::question::Call;
+use crate::question::Question;
+use plan::calls::corner;
+use plan::calls::count;
+use plan::calls::enter;
+use plan::calls::place;
+use plan::calls::side;
+use plan::limits::TextLimits;
+use plan::list::read;
+use plan::output::output;
+use plan::plan::Plan;
+use plan::plan::Planned;
+use plan::sheet::write;
+use test_text::put_bytes;
+use test_text::within;
+ghost use Rattle.plan.specs.rules.Plan.{Valid};
+
+// The plan, how many bytes were lent last, and how many bytes the answer has.
+pub struct State {
+    pub plan: Plan,
+    pub lent: usize,
+    pub said: usize,
+}
+
+impl State {
+    pub fn new() -> State
+        ensures { λ r. ⌜ Valid (r .plan) ⌝ }
+    {
+        let plan = Plan::start();
+        State {
+            plan,
+            lent: 0,
+            said: 0,
+        }
+    }
+}
+
+// The state after a call that hands back a plan.
+fn after(planned: Planned, lent: usize, said: &mut [u8]) -> State
+    requires { ⌜ Valid (planned .plan) ⌝ }
+    ensures { λ r. ⌜ Valid (r .plan) ⌝ }
+{
+    let outcome = planned.outcome;
+    let plan = planned.plan;
+    State {
+        plan,
+        lent,
+        said: put_outcome(said, outcome),
+    }
+}
+
+// The bytes that are lent come as hyphens.
+fn lend(room: &mut [u8]) {
+    for i in 0..room.len() {
+        room[i] = b'-';
+    }
+}
+
+// Places the plan with a work table of this many bytes.
+fn placed(plan: Plan, bytes: usize, room: &mut [u8], said: &mut [u8]) -> State
+    requires { ⌜ Valid plan ⌝ }
+    ensures { λ r. ⌜ Valid (r .plan) ⌝ }
+{
+    lend(room);
+    let n = within(bytes, room);
+    after(place(plan, &mut room[..n]), n, said)
+}
+
+// Writes the plan into a buffer of this many bytes.
+fn written(plan: Plan, bytes: usize, room: &mut [u8], said: &mut [u8]) -> State
+    requires { ⌜ Valid plan ⌝ }
+    ensures { λ r. ⌜ Valid (r .plan) ⌝ }
+{
+    lend(room);
+    let n = within(bytes, room);
+    State {
+        plan,
+        lent: n,
+        said: put_written(said, write(plan, &mut room[..n])),
+    }
+}
+
+// The whole output for a text.
+fn put_output(text: &[u8], said: &mut [u8]) -> usize {
+    let mut buffer = [0u8; TextLimits::SHEET];
+    let n = output(text, &mut buffer);
+    put_quoted(said, &buffer[..n])
+}
+
+// The answer to a question that no plan is asked.
+fn put_other(question: Question, text: &[u8], said: &mut [u8]) -> usize {
+    let call = question.call;
+    match call {
+        Call::Output => put_output(text, said),
+        Call::Limit => put_number(said, limit(text)),
+        Call::Names => put_names(said),
+        _ => put_bytes(said, 0, b"no such call"),
+    }
+}
+
+// The answer to a question that leaves the plan as it is.
+fn put_asked(state: State, question: Question, text: &[u8], room: &[u8], said: &mut [u8]) -> usize
+    requires { ⌜ Valid (state .plan) ⌝ }
+{
+    let call = question.call;
+    let plan = state.plan;
+    let n = within(state.lent, room);
+    match call {
+        Call::Count => put_number(said, count(plan) as u64),
+        Call::Side => put_side(said, side(plan)),
+        Call::Corner => put_corner(said, corner(plan, question.a as usize)),
+        Call::Lent => put_quoted(said, &room[..n]),
+        _ => put_other(question, text, said),
+    }
+}
+
+// The state after a question. The answer is put into an array.
+pub fn answered(
+    state: State,
+    question: Question,
+    text: &[u8],
+    room: &mut [u8],
+    said: &mut [u8],
+) -> State
+    requires { ⌜ Valid (state .plan) ⌝ }
+    ensures { λ r. ⌜ Valid (r .plan) ⌝ }
+{
+    let call = question.call;
+    let plan = state.plan;
+    let lent = state.lent;
+    match call {
+        Call::Enter => after(enter(plan, text, question.a, question.b), lent, said),
+        Call::Read => after(read(text), lent, said),
+        Call::Place => placed(plan, question.a as usize, room, said),
+        Call::Write => written(plan, question.a as usize, room, said),
+        _ => State {
+            plan,
+            lent,
+            said: put_asked(state, question, text, room, said),
+        },
+    }
+}

@@ -30,11 +30,11 @@ pub fn from(text: &[u8], at: usize) -> &[u8]
 }
 
 // A number with one digit more. Numbers of the cases have at most ten.
-fn with_digit(number: u64, byte: u8) -> u64 {
+fn with_digit(number: u64, digit: u8) -> u64 {
     if number > 9_999_999_999 {
         return number;
     }
-    number * 10 + (byte % 16) as u64
+    number * 10 + digit as u64
 }
 
 // The number that a text starts with, 0 where there is none.
@@ -45,7 +45,10 @@ pub fn number_in(text: &[u8]) -> u64 {
         if byte < b'0' {
             return number;
         }
-        number = with_digit(number, byte);
+        if byte > b'9' {
+            return number;
+        }
+        number = with_digit(number, byte - b'0');
     }
     number
 }

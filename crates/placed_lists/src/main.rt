@@ -1,5 +1,5 @@
 // Places document 01's lists that are marked P, and some at the limits, and prints a line for each: the side, then the corners
-// of the first sites. The last list is meant to come out wrong: two of its sites stand at one place.
+// of the first sites. The last list is wrong, and that is to be noticed: two of its sites stand at one place.
 mod lists;
 mod print;
 mod ready;

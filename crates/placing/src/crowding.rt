@@ -14,8 +14,8 @@ ghost use Rattle.placing.specs.code.Sites.{Held, sitesOf};
 ghost use Rattle.placing.specs.code.Reach.{distanceBetween, Lowered, Nearer, ReachesWithin, Passed, SiteReaches};
 ghost use Rattle.placing.specs.code.Crowding.{topOf, CrowdingIs, judgedFree, withSite};
 
-// The reaches of the four corners of a site: the doubled label of a side covers another site where it is above the corner's
-// reach.
+// The reaches of the four corners of a site, for sides up to a top: the doubled label of such a side covers another site where it is
+// above the corner's reach.
 pub(crate) struct Reaches {
     pub first: HalfUnits,
     pub second: HalfUnits,
@@ -23,8 +23,8 @@ pub(crate) struct Reaches {
     pub fourth: HalfUnits,
 }
 
-// For each corner, its reach at each site; and the top, the side above which some site has no corner left. The reaches hold for
-// sides up to the top.
+// For each corner, its reach at each site; and the top, at most 20,001: no judged side above it leaves every site a corner. The reaches
+// hold for sides up to the top.
 pub(crate) struct Crowding {
     pub first: [HalfUnits; Limits::SITES],
     pub second: [HalfUnits; Limits::SITES],

@@ -2,7 +2,7 @@
 -- Assumes nothing.
 use mathlib.Core.Path.{_≡_, refl, sym, _∙_, subst}
 use mathlib.Core.Bool.{Bool, true, false}
-use mathlib.Core.List.{List, [], _∷_, _++_}
+use mathlib.Core.List.{List, [], _∷_}
 use Prim.Native.Nat.{ℕ, _≤_, _<_}
 use native.Mathlib.Omega.{arith}
 use borrow.Author.Tests.{ltb-true}
@@ -16,6 +16,7 @@ use Rattle.plan.specs.rules.Site.{Site}
 use Rattle.plan.specs.rules.Enter.{Sites, accepted, refused}
 use Rattle.plan.specs.rules.List.{readList, read-listed}
 use Rattle.plan.specs.rules.Sheet.{sheetOf, shortestSheet, sheet-shortest}
+use Rattle.plan.specs.rules.Calls.{filledWith}
 use Rattle.plan.specs.rules.Output.{outputOf, output-sheet}
 use Rattle.plan.specs.Demands.{Accepts, ListRefused, at-line, SheetFor}
 use Rattle.plan.specs.theorems.Conditions.{read-condition}
@@ -33,7 +34,7 @@ refusal why buffer = record { number = numberOf why; buffer = buffer }
 -- A sheet: its length, with the sheet at the front of the buffer and the bytes after it as they came; 10 where the buffer is shorter.
 abbrev pub sheetIn : (short : Bool) → List ℕ → List ℕ → Called
 sheetIn true sheet buffer = refusal ShortBuffer buffer
-sheetIn false sheet buffer = record { number = length sheet; buffer = sheet ++ drop (length sheet) buffer }
+sheetIn false sheet buffer = record { number = length sheet; buffer = filledWith sheet buffer }
 
 -- For what the list is read as: the refusal, 8 for no sites, or the sheet of the sites.
 abbrev pub calledFor : Sites → List ℕ → Called
@@ -48,7 +49,7 @@ called list buffer = calledFor (readList list) buffer
 
 -- Why a list has no sheet in this buffer, with the number: it is refused, or its sheet is longer than the buffer.
 pub data CallRefused (list buffer : List ℕ) : ℕ → Type 0 where
-  list-refused : {number : ℕ} → ListRefused list number → CallRefused list buffer number
+  refused-list : {number : ℕ} → ListRefused list number → CallRefused list buffer number
   short-buffer : (sites : List Site) → Accepts list sites → length buffer < length (sheetOf sites) → CallRefused list buffer 10
 
 -- What the number tells a caller: from 18 on, which is the length of the shortest sheet, the buffer starts with the sheet for the list, the
@@ -84,8 +85,8 @@ pub call-told : (list buffer : List ℕ) → Told list buffer (called list buffe
 call-told list buffer = by-sites (readList list) refl
   where
     by-sites : (sites : Sites) → readList list ≡ sites → Told list buffer (calledFor sites buffer .number) (calledFor sites buffer .buffer)
-    by-sites (refused why) read = refusal-told list buffer why (list-refused (at-line (read-condition list why read)))
-    by-sites (accepted []) read = refusal-told list buffer NoSites (list-refused (none-refused list read))
+    by-sites (refused why) read = refusal-told list buffer why (refused-list (at-line (read-condition list why read)))
+    by-sites (accepted []) read = refusal-told list buffer NoSites (refused-list (none-refused list read))
     by-sites (accepted (site ∷ sites)) read =
         sheet-told list buffer (site ∷ sites) (record { read = read; some-sites = omega arith })
         (ltb (length buffer) (length (sheetOf (site ∷ sites)))) refl

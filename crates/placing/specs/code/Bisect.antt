@@ -1,4 +1,4 @@
--- The greatest side, between one that has a good choice and one that has none.
+-- The greatest side, between one that has a good choice and one from which on no judged side has.
 -- Assumes nothing.
 use mathlib.Core.Path.{_≡_, refl, sym, ap, subst, _∙_}
 use mathlib.Core.Bool.{Bool, true, false}
@@ -44,7 +44,8 @@ pub record NextIs (low high next : ℕ) : Type 0 where
   pub below : next < high
   pub end : next ≤ low → high ≤ low + 1
 
--- The lower side has a good choice, and these are the first one's corners; no side from the upper one on has one.
+-- The lower side has a good choice, and these are the first one's corners; no judged side from the upper one on
+-- has one.
 pub record BetweenIs (ps : List Place) (n top : ℕ) (between : Between) : Type 0 where
   pub least : 1 ≤ between .low .0
   pub below : between .low .0 < between .high .0

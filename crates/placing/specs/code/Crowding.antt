@@ -1,4 +1,4 @@
--- The reaches of all sites, in four arrays, and the top: the side above which crowding leaves some site no corner.
+-- The reaches of all sites, in four arrays, and the top: no judged side above it leaves every site a corner.
 -- Assumes nothing.
 use mathlib.Core.Path.{_≡_}
 use mathlib.Core.List.{List}
@@ -44,7 +44,7 @@ topOf reaches = max (max (reaches .first .0) (reaches .second .0)) (max (reaches
 pub record NoneFrom (ps : List Place) (side : ℕ) : Type 0 where
   pub none-good : (h : ℕ) → h ≤ freeSide → side ≤ h → (es : List ℕ) → Good h ps es → ⊥
 
--- The arrays have the reaches of the first n sites for sides up to the top, above which no side has a good choice.
+-- The arrays have the reaches of the first n sites for sides up to the top, above which no judged side has a good choice.
 pub record CrowdingIs (ps : List Place) (n : ℕ) (crowding : Crowding) : Type 0 where
   pub judged : crowding .top .0 ≤ freeSide
   pub at-site : (i : ℕ) → i < n → SiteReaches ps (crowding .top .0) i (reachesAt crowding i)

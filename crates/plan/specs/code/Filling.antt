@@ -113,19 +113,19 @@ abbrev outcomeOf : Planned → Outcome
 outcomeOf p = p .outcome
 
 -- Where reading is refused, so is the list.
-pub list-refused : (text : List ℕ) {listed : Planned} {why : Refusal} → listed ≡ readFrom text → listed .outcome ≡ Refused why
+pub reading-refused : (text : List ℕ) {listed : Planned} {why : Refusal} → listed ≡ readFrom text → listed .outcome ≡ Refused why
     → listed ≡ listPlaced (readList text)
-list-refused text {listed} {why} listed-is is = listed-is ∙ by-sites (readList text) (ap outcomeOf (sym listed-is) ∙ is)
+reading-refused text {listed} {why} listed-is is = listed-is ∙ by-sites (readList text) (ap outcomeOf (sym listed-is) ∙ is)
   where
     by-sites : (sites : Sites) → plannedOr started sites .outcome ≡ Refused why → plannedOr started sites ≡ listPlaced sites
     by-sites (accepted sites) is = let z : _≡_ {A = ℕ} 0 1 = cc in absurd (omega arith)
     by-sites (refused other) is = refl
 
 -- Else it is placed: a table of 57,600 bytes is enough for the sites of every plan.
-pub list-placed : (text table : List ℕ) {listed done : Planned} → length table ≡ fullTable → listed ≡ readFrom text
+pub reading-placed : (text table : List ℕ) {listed done : Planned} → length table ≡ fullTable → listed ≡ readFrom text
     → listed .outcome ≡ Done → done ≡ placedIn (listed .plan) table → done ≡ listPlaced (readList text)
 unfolding unplaced
-list-placed text table size listed-is is-read done-is =
+reading-placed text table size listed-is is-read done-is =
     done-is ∙ ap (λ (p : Planned). placedIn (p .plan) table) listed-is
     ∙ by-sites (readList text) refl (ap outcomeOf (sym listed-is) ∙ is-read)
   where
@@ -150,7 +150,7 @@ refused-output text {done} {why} done-is is = by-sites (readList text) (ap outco
 
 -- A plan whose sheet is the output for a text.
 pub record PlanOf (text : List ℕ) (plan : Plan) : Type 0 where
-  pub is-placed : plan .placed ≡ true
+  pub plan-placed : plan .placed ≡ true
   pub sheet-is : sheetOf (sitesIn plan) ≡ outputOf text
 
 -- Where it is placed, its plan is one.
@@ -163,7 +163,7 @@ placed-output text {done} done-is is =
     by-sites (accepted []) read is = let z : _≡_ {A = ℕ} 0 1 = cc in absurd (omega arith)
     by-sites (accepted (site ∷ sites)) read is =
         record {
-          is-placed = refl;
+          plan-placed = refl;
           sheet-is = ap sheetOf (sites-placed (site ∷ sites)) ∙ sym (output-sheet text (site ∷ sites) read (omega arith));
         }
     by-sites (refused other) read is = let z : _≡_ {A = ℕ} 0 1 = cc in absurd (omega arith)

@@ -130,10 +130,10 @@ refused-not-read {text} {sites = sites} f read = by-order (decLe (length (f .bef
         omega (arith, f .some-rest, ap length (on .rest-is), length-append (listText (on .more)) (f .rest))
 
 -- So what is refused is not accepted.
-pub refused-not-accepted : {text : List ℕ} {n : ℕ} {sites : List Site} → ListRefused text n → Accepts text sites → ⊥
+pub refused-list-not-accepted : {text : List ℕ} {n : ℕ} {sites : List Site} → ListRefused text n → Accepts text sites → ⊥
 unfolding listText
-refused-not-accepted (at-line first) accepts = refused-not-read first (accepts .read)
-refused-not-accepted {text} {sites = sites} (no-sites empty) accepts = by-sites sites (accepts .some-sites) (read-list text sites (accepts .read) ∙ empty)
+refused-list-not-accepted (at-line first) accepts = refused-not-read first (accepts .read)
+refused-list-not-accepted {text} {sites = sites} (no-sites empty) accepts = by-sites sites (accepts .some-sites) (read-list text sites (accepts .read) ∙ empty)
   where
     by-sites : (sites : List Site) → 1 ≤ length sites → listText sites ≡ [] → ⊥
     by-sites [] nonempty is = omega arith

@@ -85,7 +85,7 @@ rows =
     ∷ row [] (refusedAt 0 8)
     ∷ []
 
--- None is missing.
+-- So many rows: one that is left out is missed.
 pub rows-count : length rows ≡ 13
 rows-count = refl
 

@@ -49,20 +49,20 @@ BothRefused one other = (why : Refusal) × (one ≡ refused why) × (other ≡ r
 
 -- With k lines to read: where at most `left` more sites find room, a text of so many lines and one more is refused, as are its
 -- first m bytes.
-abbrev Refuses : ℕ → Type 0
-Refuses k =
+abbrev LongRefused : ℕ → Type 0
+LongRefused k =
     (m left : ℕ) (sites : List Site) (text : List ℕ) → length text ≤ k → mostSites ≤ length sites + left → endedLine * left + endedLine ≤ length text
     → endedLine * left + endedLine ≤ m → BothRefused (readLines k sites text) (readLines k sites (take m text))
 
 -- Line after line: a refused line decides both, an accepted one takes at most 21 bytes and the room of one site.
-lines-refused : (k : ℕ) → Refuses k
+lines-refused : (k : ℕ) → LongRefused k
 lines-refused zero m left sites text enough full long longer = absurd (omega arith)
 lines-refused (suc k) m left sites text enough full long longer =
     rw
     (read-next k sites text (omega arith), read-next k sites (take m text) (omega (arith, length-take m text)))
     (go (lines-refused k) (firstLine text) refl)
   where
-    after : Refuses k → (cut : Cut) → CutOf endedLine text cut → (entered : Sites) → enteredLine sites (cut .line) ≡ entered
+    after : LongRefused k → (cut : Cut) → CutOf endedLine text cut → (entered : Sites) → enteredLine sites (cut .line) ≡ entered
         → BothRefused (afterLine (readLines k) entered (cut .rest))
         (afterLine (readLines k) entered (take (m - suc (length (cut .line))) (cut .rest)))
     after further cut is (refused why) e = (why, refl, refl)
@@ -75,7 +75,7 @@ lines-refused (suc k) m left sites text enough full long longer =
         let short = is .short in
         further (m - suc (length (cut .line))) (left - 1) more (cut .rest) (omega arith) (omega arith) (omega arith) (omega arith)
 
-    go : Refuses k → (first : Option Cut) → firstLine text ≡ first
+    go : LongRefused k → (first : Option Cut) → firstLine text ≡ first
         → BothRefused (withLine (readLines k) sites (firstLine text)) (withLine (readLines k) sites (firstLine (take m text)))
     go further none is = rw (is, no-cut-take endedLine m text is) (Line, refl, refl)
     go further (some cut) is =

@@ -14,7 +14,7 @@ use Rattle.plan.specs.rules.Enter.{Sites, accepted, refused}
 use Rattle.plan.specs.rules.List.{readList, listText, read-listed, read-list}
 use Rattle.plan.specs.rules.Sheet.{sheetOf, sheet-longest, longestSheet}
 use Rattle.plan.specs.rules.Calls.{filledWith}
-use Rattle.plan.specs.rules.Output.{refusalLine, listPlaced, outputFor, outputOf, output-sheet}
+use Rattle.plan.specs.rules.Output.{refusalLine, listPlaced, outputFor, outputOf}
 use Rattle.plan.specs.code.Refusing.{refusal-short}
 use Rattle.plan.specs.Demands.{
   Accepts,

@@ -1,5 +1,4 @@
--- Demand 3 in the picture: whoever takes a side above twice the number that a right sheet prints draws two labels that cover a common
--- point.
+-- Demand 3 in the picture: whoever takes a side above twice the number that a sheet prints draws two labels that cover a common point.
 -- Assumes nothing.
 use mathlib.Core.Path.{_≡_}
 use mathlib.Core.List.{List}
@@ -16,7 +15,7 @@ use Rattle.placing.specs.rules.Choice.{MeetingPair}
 use Rattle.placing.specs.theorems.Common.{meet-exactly}
 use Rattle.plan.specs.rules.Site.{Site, Listed}
 use Rattle.plan.specs.rules.ReadOff.{numberOn, spotsOn}
-use Rattle.plan.specs.Demands.{RightSheet}
+use Rattle.plan.specs.Demands.{NoRival, RightSheet}
 
 -- The labels of some two of these places, at these corners and the side p/q, cover a common point.
 pub record CommonPoint (p q : ℕ) (ps : List Place) (cs : List ℕ) : Type 0 where
@@ -45,10 +44,13 @@ meeting-common {p} {q} some-p some-q places pair =
       by-second = common .2;
     }
 
--- So do those of every rival of a right sheet, for every number that it prints and every p/q above twice it.
-pub rivals-common : {sites : List Site} {sheet : List ℕ} → Listed sites → RightSheet sites sheet → (number p q : ℕ)
-    → numberOn sheet ≡ some number → 1 ≤ q → 2 * number * q < p → (corners : List ℕ) → Corners (length (spotsOn sheet)) corners
-    → CommonPoint p q (spotsOn sheet) corners
-rivals-common listed right number p q printed some-q above corners each =
-    meeting-common (omega arith) some-q (rw (right .spots) (listed .places-distinct))
-    (right .no-rival .rivals-meet number p q printed some-q above corners each)
+-- So do those of every rival of a sheet that has none, for every number that it prints and every p/q above twice it. Demand 3 is a
+-- hypothesis here: with a premise more it would not be enough.
+pub rivals-common : {sheet : List ℕ} → NoRival sheet → Distinct (spotsOn sheet) → (number p q : ℕ) → numberOn sheet ≡ some number → 1 ≤ q
+    → 2 * number * q < p → (corners : List ℕ) → Corners (length (spotsOn sheet)) corners → CommonPoint p q (spotsOn sheet) corners
+rivals-common no-rival spots number p q printed some-q above corners each =
+    meeting-common (omega arith) some-q spots (no-rival .rivals-meet number p q printed some-q above corners each)
+
+-- The spots of a right sheet are distinct.
+pub right-spots : {sites : List Site} {sheet : List ℕ} → Listed sites → RightSheet sites sheet → Distinct (spotsOn sheet)
+right-spots listed right = rw (right .spots) (listed .places-distinct)

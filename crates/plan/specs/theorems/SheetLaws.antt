@@ -2,26 +2,22 @@
 -- Assumes nothing.
 use mathlib.Core.Path.{_≡_, refl, sym, ap, _∙_, subst}
 use mathlib.Core.List.{List, [], _∷_, _++_, append-assoc}
-use mathlib.Core.Option.{some, none}
+use mathlib.Core.Option.{some}
 use Prim.Native.Nat.{ℕ, _*_, _≤_, _<_}
 use native.Mathlib.Omega.{arith}
 use lib.ListN.{length}
 use Rattle.placing.specs.declared.units.Place.{Place}
 use Rattle.placing.specs.declared.units.Side.{Side}
-use Rattle.placing.specs.declared.units.Side.the-variants.{Number, Free}
 use Rattle.placing.specs.rules.Units.{xOf, yOf}
 use Rattle.placing.specs.rules.Corners.{Corners}
 use Rattle.placing.specs.rules.Choice.{MeetingPair}
 use Rattle.placing.specs.rules.Answer.{Answer, sideNumber, answerOf, IsAnswer, is-free, is-number, answer-is}
 use Rattle.placing.specs.theorems.Twice.{answer-twice}
-use Rattle.plan.specs.declared.refusal.Refusal.{Refusal}
-use Rattle.plan.specs.rules.Refusal.{numberOf}
-use Rattle.plan.specs.rules.Text.{tab, lineFeed, fieldsOf, Without, without-append, lines-more, fields-one, fields-more}
+use Rattle.plan.specs.rules.Text.{tab, fieldsOf, Without, fields-one, fields-more}
 use Rattle.plan.specs.rules.Number.{numberIn, digitsAfter, decimal, number-decimal, decimal-without}
 use Rattle.plan.specs.rules.Name.{sameBytes, name-without}
 use Rattle.plan.specs.rules.Site.{Site, placesOf, Listed, ByRules}
-use Rattle.plan.specs.rules.Enter.{accepted}
-use Rattle.plan.specs.rules.List.{readList, listLine, listText, read-listed, list-read, read-list}
+use Rattle.plan.specs.rules.List.{listLine, listText, list-read}
 use Rattle.plan.specs.rules.Sheet.{
   sideWord,
   sideText,
@@ -48,7 +44,7 @@ use Rattle.plan.specs.rules.ReadOff.{
   carriedLines,
   carried,
 }
-use Rattle.plan.specs.rules.Output.{refusedWord, refusalLine, outputOf, output-sheet}
+use Rattle.plan.specs.rules.Output.{outputOf, output-sheet}
 use Rattle.plan.specs.Demands.{NoRival}
 
 -- ---- fields

@@ -1,4 +1,5 @@
--- `placing::side::bisect` meets its contract: the lower end has a good choice and the upper one has none, until nothing is left to try.
+-- `placing::side::bisect` meets its contract: the lower end has a good choice and no judged side from the upper one
+-- on has, until nothing is left to try.
 -- Assumes nothing.
 use mathlib.Core.Path.{_∙_}
 use Prim.Native.Nat.{_-_}

@@ -37,7 +37,7 @@ sheet-placed c =
 compose-requires : tie.Need-compose-requires
 compose-requires c κs =
     let told = c .before .before in
-    (told .before .before .place-list .ensures .1 .0, sheet-placed told .is-placed, omega arith)
+    (told .before .before .place-list .ensures .1 .0, sheet-placed told .plan-placed, omega arith)
 
 returns-2 : tie.Need-returns-2
 returns-2 c =

@@ -6,7 +6,7 @@ use lib.ListN.{replicate, length-replicate}
 use denote.Ref.{now}
 use Rattle.plan.specs.rules.Calls.{fullTable}
 use Rattle.plan.specs.theorems.OutputLaws.{list-told}
-use Rattle.plan.specs.code.Filling.{list-refused, list-placed}
+use Rattle.plan.specs.code.Filling.{reading-refused, reading-placed}
 use Rattle.plan.proofs.output.place_list.Statement.{statement}
 use Rattle.plan.proofs.output.place_list.Tie as tie
 
@@ -20,7 +20,7 @@ returns : tie.Need-returns
 returns c =
     let listed = c .before .before in
     let text = now (listed .before .before .args .text) in
-    let refused = list-refused text (listed .read .ensures .0) (c .enum-told .given .1) in
+    let refused = reading-refused text (listed .read .ensures .0) (c .enum-told .given .1) in
     (refused, (listed .read .ensures .1 .0, list-told text refused))
 
 enum-told-2 : tie.Need-enum-told-2
@@ -37,7 +37,7 @@ returns-2 c =
     let read-done = c .before .before .before .before in
     let listed = read-done .before .before in
     let text = now (listed .before .before .args .text) in
-    let placed = list-placed text (replicate fullTable 0) (length-replicate {A = ℕ} fullTable 0) (listed .read .ensures .0)
+    let placed = reading-placed text (replicate fullTable 0) (length-replicate {A = ℕ} fullTable 0) (listed .read .ensures .0)
     (read-done .enum-told2 .given .1) (c .before .place .ensures .0) in
     (placed, (c .before .place .ensures .1 .1 .0, list-told text placed))
 

@@ -21,6 +21,9 @@ shared-slice-read-byte c = search needs
 returns : tie.Need-returns Inv-loop μ-loop
 returns c = search needs
 
+returns-2 : tie.Need-returns-2 Inv-loop μ-loop
+returns-2 c = search needs
+
 with-digit-requires : tie.Need-with-digit-requires Inv-loop μ-loop
 with-digit-requires c κs = search needs
 
@@ -33,8 +36,8 @@ loop-less c = search needs
 loop-again : tie.Need-loop-again Inv-loop μ-loop
 loop-again c = search needs
 
-returns-2 : tie.Need-returns-2 Inv-loop μ-loop
-returns-2 c = search needs
+returns-3 : tie.Need-returns-3 Inv-loop μ-loop
+returns-3 c = search needs
 
 pub number-in-spec : {M : Type 1} → statement M
 number-in-spec =
@@ -45,8 +48,9 @@ number-in-spec =
     loop-holds
     shared-slice-read-byte
     returns
+    returns-2
     with-digit-requires
     add-i
     loop-less
     loop-again
-    returns-2)
+    returns-3)

@@ -51,6 +51,8 @@ pub rivals-common : {sheet : List ℕ} → NoRival sheet → Distinct (spotsOn s
 rivals-common no-rival spots number p q printed some-q above corners each =
     meeting-common (omega arith) some-q spots (no-rival .rivals-meet number p q printed some-q above corners each)
 
--- The spots of a right sheet are distinct.
-pub right-spots : {sites : List Site} {sheet : List ℕ} → Listed sites → RightSheet sites sheet → Distinct (spotsOn sheet)
-right-spots listed right = rw (right .spots) (listed .places-distinct)
+-- A right sheet has none, and its spots are distinct.
+pub right-common : {sites : List Site} {sheet : List ℕ} → Listed sites → RightSheet sites sheet → (number p q : ℕ)
+    → numberOn sheet ≡ some number → 1 ≤ q → 2 * number * q < p → (corners : List ℕ) → Corners (length (spotsOn sheet)) corners
+    → CommonPoint p q (spotsOn sheet) corners
+right-common listed right = rivals-common (right .no-rival) (rw (right .spots) (listed .places-distinct))

@@ -12,8 +12,8 @@ use lib.ListN.{length}
 use Rattle.placing.specs.declared.units.Place.{Place}
 use Rattle.placing.specs.declared.units.Side.{Side}
 use Rattle.placing.specs.declared.units.Side.the-variants.{Number, Free}
-use Rattle.placing.specs.rules.Units.{Distinct, greatestSide, freeSide}
-use Rattle.placing.specs.rules.Choice.{Good, First, good-smaller, good-one-exists, first-unique}
+use Rattle.placing.specs.rules.Units.{Distinct, InRange, greatestSide, freeSide}
+use Rattle.placing.specs.rules.Choice.{Good, First, good-smaller, good-one-exists, good-at-free, first-unique}
 use Rattle.placing.specs.rules.Tests.{good?}
 use Rattle.placing.specs.rules.Enumerate.{
   firstOf,
@@ -164,6 +164,6 @@ module _ {ps : List Place} {h : ℕ} {cs : List ℕ} where
   pub answer-none-above : IsAnswer ps (numbered h cs) → (k : ℕ) → h < k → (es : List ℕ) → Good k ps es → ⊥
   answer-none-above (is-number not-free least most first above) = above
 
--- The corners of a free answer are a good choice at 20,001.
-pub free-good : {ps : List Place} {cs : List ℕ} → IsAnswer ps (unbounded cs) → Good freeSide ps cs
-free-good (is-free first) = first .good
+-- The corners of a free answer are a good choice at every side.
+pub free-good : {ps : List Place} {cs : List ℕ} → InRange ps → IsAnswer ps (unbounded cs) → (h : ℕ) → Good h ps cs
+free-good range (is-free first) = good-at-free range (first .good)

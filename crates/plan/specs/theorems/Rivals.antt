@@ -1,6 +1,6 @@
 -- Demand 3 in the picture: whoever takes a side above twice the number that a sheet prints draws two labels that cover a common point.
 -- Assumes nothing.
-use mathlib.Core.Path.{_≡_}
+use mathlib.Core.Path.{_≡_, _∙_, ap, subst}
 use mathlib.Core.List.{List}
 use mathlib.Core.Logic.{_≢_}
 use mathlib.Core.Option.{some}
@@ -12,8 +12,9 @@ use Rattle.placing.specs.rules.Units.{siteAt, Distinct}
 use Rattle.placing.specs.rules.Corners.{cornerAt, Corners}
 use Rattle.placing.specs.rules.Cover.{Point, Covers}
 use Rattle.placing.specs.rules.Choice.{MeetingPair}
+use Rattle.placing.specs.rules.Answer.{Answer, numbered, sideNumber, IsAnswer, answer-unique}
 use Rattle.placing.specs.theorems.Common.{meet-exactly}
-use Rattle.plan.specs.rules.Site.{Site, Listed}
+use Rattle.plan.specs.rules.Site.{Site, Listed, placesOf}
 use Rattle.plan.specs.rules.ReadOff.{numberOn, spotsOn}
 use Rattle.plan.specs.Demands.{NoRival, RightSheet}
 
@@ -51,8 +52,12 @@ pub rivals-common : {sheet : List ℕ} → NoRival sheet → Distinct (spotsOn s
 rivals-common no-rival spots number p q printed some-q above corners each =
     meeting-common (omega arith) some-q spots (no-rival .rivals-meet number p q printed some-q above corners each)
 
--- A right sheet has none, and its spots are distinct.
-pub right-common : {sites : List Site} {sheet : List ℕ} → Listed sites → RightSheet sites sheet → (number p q : ℕ)
-    → numberOn sheet ≡ some number → 1 ≤ q → 2 * number * q < p → (corners : List ℕ) → Corners (length (spotsOn sheet)) corners
-    → CommonPoint p q (spotsOn sheet) corners
-right-common listed right = rivals-common (right .no-rival) (rw (right .spots) (listed .places-distinct))
+-- So, over a right sheet for some sites, do those of everyone who takes a side above twice the number of the sites' answer.
+pub right-common : {sites : List Site} {sheet : List ℕ} → Listed sites → RightSheet sites sheet → {h : ℕ} {cs : List ℕ}
+    → IsAnswer (placesOf sites) (numbered h cs) → (p q : ℕ) → 1 ≤ q → 2 * h * q < p → (corners : List ℕ)
+    → Corners (length (placesOf sites)) corners → CommonPoint p q (placesOf sites) corners
+right-common {sheet} listed right {h} is p q some-q above corners =
+    let printed : numberOn sheet ≡ some h = right .number ∙ ap (λ (a : Answer). sideNumber (a .side)) (answer-unique (right .is-answer) is) in
+    let spots : Distinct (spotsOn sheet) = rw (right .spots) (listed .places-distinct) in
+    subst (λ (ps : List Place). Corners (length ps) corners → CommonPoint p q ps corners) (right .spots)
+    (rivals-common (right .no-rival) spots h p q printed some-q above corners)

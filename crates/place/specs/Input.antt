@@ -6,9 +6,9 @@ use mathlib.Core.Path.{_≡_}
 use Prim.Native.Nat.{ℕ, zero, suc, _+_, _-_, _<_, _≤_}
 use lib.IntN.{ℤ, pos, negsuc}
 use lib.ListN.{length, take}
-use Rattle.place.specs.declared.Reading.{Reading}
-use Rattle.place.specs.declared.Step.{Step}
-use Rattle.place.specs.declared.Step.the-variants.{Got, Ended, Failed}
+use Rattle.place.specs.declared.answer.Reading.{Reading}
+use Rattle.place.specs.declared.answer.Step.{Step}
+use Rattle.place.specs.declared.answer.Step.the-variants.{Got, Ended, Failed}
 
 -- Below zero the read failed, at zero the input has ended, and any other answer is that many bytes.
 abbrev pub stepOf : ℤ → Step

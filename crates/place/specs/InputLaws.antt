@@ -11,9 +11,9 @@ use lib.IntN.{ℤ, natAbs, pos, negsuc}
 use lib.ListN.{length, take, drop, length-take, length-drop}
 use lib.Signed.{ltZ, nonNeg}
 use Rattle.libc.specs.Io.{Moved}
-use Rattle.place.specs.declared.Reading.{Reading}
-use Rattle.place.specs.declared.Step.{Step}
-use Rattle.place.specs.declared.Step.the-variants.{Got, Ended, Failed}
+use Rattle.place.specs.declared.answer.Reading.{Reading}
+use Rattle.place.specs.declared.answer.Step.{Step}
+use Rattle.place.specs.declared.answer.Step.the-variants.{Got, Ended, Failed}
 use Rattle.place.specs.Input.{GotSome, Onward, bytesOf, leftAfter, roomLeft, stepOf}
 
 -- An answer below zero is a failure.

@@ -7,10 +7,10 @@ use lib.ListN.{length, take}
 use Rattle.plan.specs.rules.List.{longestText}
 use Rattle.plan.specs.rules.Output.{outputOf}
 use Rattle.plan.specs.Demands.{Answered}
-use Rattle.place.specs.declared.Reading.{Reading}
-use Rattle.place.specs.declared.Answer.{Answer}
-use Rattle.place.specs.declared.Answer.the-variants.{Output, Unread}
-use Rattle.place.specs.declared.Step.the-variants.{Failed}
+use Rattle.place.specs.declared.answer.Reading.{Reading}
+use Rattle.place.specs.declared.answer.Answer.{Answer}
+use Rattle.place.specs.declared.answer.Answer.the-variants.{Output, Unread}
+use Rattle.place.specs.declared.answer.Step.the-variants.{Failed}
 use Rattle.place.specs.Input.{Reads, Finished, Sound}
 
 -- The first n bytes of the buffer are the output for every input of which the bytes read are the first 5,061: "these already decide

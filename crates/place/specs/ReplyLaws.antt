@@ -11,8 +11,8 @@ use Rattle.plan.specs.rules.Output.{outputOf}
 use Rattle.plan.specs.Demands.{Answered}
 use Rattle.plan.specs.theorems.Longer.{output-first}
 use Rattle.plan.specs.theorems.OutputLaws.{output-answered, output-within}
-use Rattle.place.specs.declared.Answer.{Answer}
-use Rattle.place.specs.declared.Answer.the-variants.{Output, Unread}
+use Rattle.place.specs.declared.answer.Answer.{Answer}
+use Rattle.place.specs.declared.answer.Answer.the-variants.{Output, Unread}
 use Rattle.place.specs.Reply.{OutputFor, Replied, Within}
 
 -- What `output` leaves for the bytes read is the output for every input that starts with them.

@@ -45,14 +45,15 @@ meeting-common {p} {q} some-p some-q places pair =
       by-second = common .2;
     }
 
--- So do those of every rival of a sheet that has none, for every number that it prints and every p/q above twice it. Demand 3 is a
--- hypothesis here: with a premise more it would not be enough.
+-- So do two labels of every rival, for every number that the sheet prints and every p/q above twice it. Demand 3 is a hypothesis here:
+-- with a premise more it would not be enough.
 pub rivals-common : {sheet : List ℕ} → NoRival sheet → Distinct (spotsOn sheet) → (number p q : ℕ) → numberOn sheet ≡ some number → 1 ≤ q
     → 2 * number * q < p → (corners : List ℕ) → Corners (length (spotsOn sheet)) corners → CommonPoint p q (spotsOn sheet) corners
 rivals-common no-rival spots number p q printed some-q above corners each =
     meeting-common (omega arith) some-q spots (no-rival .rivals-meet number p q printed some-q above corners each)
 
--- So, over a right sheet for some sites, do those of everyone who takes a side above twice the number of the sites' answer.
+-- The same from the answer's own number: over a right sheet for some sites, whoever takes a side above twice the number of their answer
+-- draws two labels that cover a common point.
 pub right-common : {sites : List Site} {sheet : List ℕ} → Listed sites → RightSheet sites sheet → {h : ℕ} {cs : List ℕ}
     → IsAnswer (placesOf sites) (numbered h cs) → (p q : ℕ) → 1 ≤ q → 2 * h * q < p → (corners : List ℕ)
     → Corners (length (placesOf sites)) corners → CommonPoint p q (placesOf sites) corners

@@ -1,4 +1,4 @@
--- `place::reply` meets its contract: a failed read cut the list short, or what `output` leaves in the buffer is the output for the whole
+-- `reply` meets its contract: a failed read cut the list short, or what `output` leaves in the buffer is the output for the whole
 -- input.
 -- Assumes nothing.
 use mathlib.Core.Logic.{⊎-elim}
@@ -10,14 +10,14 @@ use denote.Enum.Declared.{tagOf}
 use denote.Ref.{now}
 use types.Run.{OneOf}
 use borrow.Author.Needs.{needs}
-use Rattle.place.specs.declared.Step.{Step}
-use Rattle.place.specs.declared.Step.the-variants.{Got, Ended, Failed}
+use Rattle.place.specs.declared.answer.Step.{Step}
+use Rattle.place.specs.declared.answer.Step.the-variants.{Got, Ended, Failed}
 use Rattle.place.specs.Input.{Sound}
 use Rattle.place.specs.Reply.{InputRead}
 use Rattle.place.specs.ReplyLaws.{output-for}
-use Rattle.place.proofs.Step as step
-use Rattle.place.proofs.reply.Statement.{statement}
-use Rattle.place.proofs.reply.Tie as tie
+use Rattle.place.proofs.answer.Step as step
+use Rattle.place.proofs.answer.reply.Statement.{statement}
+use Rattle.place.proofs.answer.reply.Tie as tie
 
 -- A step whose place among the variants is that of `Got` or `Ended` is no failure.
 unfailed : (s : Step) → OneOf (0 ∷ 1 ∷ []) (tagOf step.the-type s) → Sound s

@@ -1,8 +1,8 @@
--- `place::room_left` meets its contract. In each arm the step is the one that the arm names.
+-- `room_left` meets its contract. In each arm the step is the one that the arm names.
 -- Assumes nothing.
 use borrow.Author.Needs.{needs}
-use Rattle.place.proofs.room_left.Statement.{statement}
-use Rattle.place.proofs.room_left.Tie as tie
+use Rattle.place.proofs.answer.room_left.Statement.{statement}
+use Rattle.place.proofs.answer.room_left.Tie as tie
 
 enum-told : tie.Need-enum-told
 enum-told c = search needs

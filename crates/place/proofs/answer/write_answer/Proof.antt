@@ -1,14 +1,14 @@
--- `place::write_answer` is safe: the output lies within the buffer.
+-- `write_answer` is safe: the output lies within the buffer.
 -- Assumes nothing.
 use mathlib.Core.Path.{sym, subst}
 use Prim.Native.Nat.{_≤_}
 use lib.ListN.{length}
 use lib.Seq.{length-take-le}
 use borrow.Author.Needs.{needs}
-use Rattle.place.specs.declared.Answer.{Answer}
+use Rattle.place.specs.declared.answer.Answer.{Answer}
 use Rattle.place.specs.Reply.{Within}
-use Rattle.place.proofs.write_answer.Statement.{statement}
-use Rattle.place.proofs.write_answer.Tie as tie
+use Rattle.place.proofs.answer.write_answer.Statement.{statement}
+use Rattle.place.proofs.answer.write_answer.Tie as tie
 
 enum-known-answer : tie.Need-enum-known-answer
 enum-known-answer c = search needs

@@ -1,12 +1,12 @@
--- `place::step_of` meets its contract: an answer of `read` is a failure, the end of the input, or so many bytes.
+-- `step_of` meets its contract: an answer of `read` is a failure, the end of the input, or so many bytes.
 -- Assumes nothing.
 use lib.Dec.{lit<}
 use lib.Signed.{natAbs-le}
 use native.Mathlib.Nat.{lt-of-le-of-lt}
 use mir.Facts.{toZ-ofZ}
 use Rattle.place.specs.InputLaws.{below-zero-fails, bytes-come, no-bytes-end, not-below-counts}
-use Rattle.place.proofs.step_of.Statement.{statement}
-use Rattle.place.proofs.step_of.Tie as tie
+use Rattle.place.proofs.answer.step_of.Statement.{statement}
+use Rattle.place.proofs.answer.step_of.Tie as tie
 
 returns : tie.Need-returns
 returns c =

@@ -1,4 +1,4 @@
--- `place::read_once` meets its contract: the bytes that come are counted and lie within the text, behind those read before.
+-- `read_once` meets its contract: the bytes that come are counted and lie within the text, behind those read before.
 -- Assumes nothing.
 use mathlib.Core.Path.{_≡_}
 use Prim.Native.Nat.{_+_, _-_, _≤_}
@@ -9,8 +9,8 @@ use borrow.Rule.Slice.PartMut.{take-put}
 use mir.Facts.{toZ-ofZ}
 use Rattle.place.specs.Input.{stepOf}
 use Rattle.place.specs.InputLaws.{got-some, read-within}
-use Rattle.place.proofs.read_once.Statement.{statement}
-use Rattle.place.proofs.read_once.Tie as tie
+use Rattle.place.proofs.answer.read_once.Statement.{statement}
+use Rattle.place.proofs.answer.read_once.Tie as tie
 
 sub-read : tie.Need-sub-read
 sub-read c = search needs

@@ -1,4 +1,4 @@
--- `place::read_input` meets its contract: each turn is one read more, which reads a byte or more, or is the last.
+-- `read_input` meets its contract: each turn is one read more, which reads a byte or more, or is the last.
 -- Assumes nothing.
 use mathlib.Core.Path.{_≡_, refl}
 use Prim.Native.Nat.{_≤_}
@@ -7,8 +7,8 @@ use lib.ListN.{length}
 use borrow.Author.Needs.{needs}
 use Rattle.place.specs.Input.{roomLeft, Reads, none-yet, once-more}
 use Rattle.place.specs.InputLaws.{left-inside, left-falls}
-use Rattle.place.proofs.read_input.Statement.{statement}
-use Rattle.place.proofs.read_input.Tie as tie
+use Rattle.place.proofs.answer.read_input.Statement.{statement}
+use Rattle.place.proofs.answer.read_input.Tie as tie
 
 abbrev Inv-loop : tie.InvT-loop
 Inv-loop text₀ reading₀ text reading = (reading .at ≤ length text) × (length text ≡ length text₀) × Reads text₀ reading text

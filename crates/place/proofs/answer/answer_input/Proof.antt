@@ -1,9 +1,9 @@
--- `place::main` is safe: the room has 5,061 bytes, and the answer lies within the buffer.
+-- `answer_input` is safe: the room has 5,061 bytes, and the answer lies within the buffer.
 -- Assumes nothing.
 use borrow.Author.Needs.{needs}
 use Rattle.place.specs.ReplyLaws.{replied-within}
-use Rattle.place.proofs.main.Statement.{statement}
-use Rattle.place.proofs.main.Tie as tie
+use Rattle.place.proofs.answer.answer_input.Statement.{statement}
+use Rattle.place.proofs.answer.answer_input.Tie as tie
 
 slice-aggregate-reply : tie.Need-slice-aggregate-reply
 slice-aggregate-reply c = search needs
@@ -19,5 +19,5 @@ write-answer-requires c κs =
 returns : tie.Need-returns
 returns c = search needs
 
-pub main-spec : {M : Type 1} → statement M
-main-spec = tie.close (tie.spec slice-aggregate-reply reply-requires write-answer-requires returns)
+pub answer-input-spec : {M : Type 1} → statement M
+answer-input-spec = tie.close (tie.spec slice-aggregate-reply reply-requires write-answer-requires returns)

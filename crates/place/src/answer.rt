@@ -1,0 +1,133 @@
+// Reading the list from standard input, and writing its answer. Nothing but `answer_input` is seen outside, so that no answer and no
+// reading can be made up elsewhere.
+use libc::STDERR_FILENO;
+use libc::STDIN_FILENO;
+use libc::STDOUT_FILENO;
+use plan::limits::TextLimits;
+use plan::output::output;
+ghost use mathlib.Core.Path.{_≡_};
+ghost use Prim.Native.Nat.{_≤_, _<_};
+ghost use lib.ListN.{length};
+ghost use Rattle.place.specs.Input.{Finished, Onward, Reads, bytesOf, roomLeft, stepOf};
+ghost use Rattle.plan.specs.rules.List.{longestText};
+ghost use Rattle.place.specs.Reply.{Replied, Within};
+
+// What one read did: it brought so many bytes, or found the end of the input, or failed.
+enum Step {
+    Got(usize),
+    Ended,
+    Failed,
+}
+
+// How far reading came: how many bytes stand in the room, and what the last read did. Before the first read that is `Got(0)`.
+struct Reading {
+    at: usize,
+    last: Step,
+}
+
+// What came of reading the input: an output of so many bytes, or none, since a read failed.
+enum Answer {
+    Output(Reading, usize),
+    Unread(Reading),
+}
+
+// What an answer of `read` means.
+fn step_of(got: isize) -> Step
+    ensures { λ r. ⌜ r ≡ stepOf got ⌝ }
+{
+    if got < 0 {
+        return Step::Failed;
+    }
+    let n = got as usize;
+    if n == 0 {
+        return Step::Ended;
+    }
+    Step::Got(n)
+}
+
+// How many bytes a step brought.
+fn bytes_of(step: Step) -> usize
+    ensures { λ r. ⌜ r ≡ bytesOf step ⌝ }
+{
+    match step {
+        Step::Got(n) => n,
+        Step::Ended => 0,
+        Step::Failed => 0,
+    }
+}
+
+// How many bytes the next read may bring: none after the end of the input or a failed read.
+fn room_left(reading: Reading, room: &[u8]) -> usize
+    requires { ⌜ reading .at ≤ length (now room) ⌝ }
+    ensures { λ r. ⌜ r ≡ roomLeft reading (now (room .entry)) ⌝ }
+{
+    let last = reading.last;
+    match last {
+        Step::Got(_) => room.len() - reading.at,
+        Step::Ended => 0,
+        Step::Failed => 0,
+    }
+}
+
+// One read into what is left of the room.
+fn read_once(text: &mut [u8], at: usize) -> Reading
+    requires { ⌜ at < length (now text) ⌝ }
+    ensures { λ r. ⌜ Onward at (now (text .entry)) r (now (text .exit)) ⌝ }
+{
+    let got = libc::read(STDIN_FILENO, &mut text[at..]);
+    let step = step_of(got);
+    Reading {
+        at: at + bytes_of(step),
+        last: step,
+    }
+}
+
+// Reads until the input ends, a read fails or the room is full, however the bytes arrive.
+fn read_input(text: &mut [u8]) -> Reading
+    ensures reads { λ r. ⌜ Reads (now (text .entry)) r (now (text .exit)) ⌝ }
+    ensures finished { λ r. ⌜ Finished r (now (text .exit)) ⌝ }
+{
+    let mut reading = Reading {
+        at: 0,
+        last: Step::Got(0),
+    };
+    while 0 < room_left(reading, text) {
+        reading = read_once(text, reading.at);
+    }
+    reading
+}
+
+// Reads the list into the room and puts its output into the buffer. The bytes read decide every longer text. A list cut short by a
+// failed read has no output.
+fn reply(text: &mut [u8], buffer: &mut [u8; TextLimits::SHEET]) -> Answer
+    requires { ⌜ length (now text) ≡ longestText ⌝ }
+    ensures { λ r. ⌜ Replied (now (text .entry)) (now (text .exit)) r (now (buffer .exit)) ⌝ }
+{
+    let reading = read_input(text);
+    let last = reading.last;
+    if let Step::Failed = last {
+        return Answer::Unread(reading);
+    }
+    let n = reading.at;
+    Answer::Output(reading, output(&text[..n], buffer))
+}
+
+// Writes the answer: the output, or a line on standard error where there is none or it cannot be written.
+fn write_answer(answer: Answer, buffer: [u8; TextLimits::SHEET])
+    requires { ⌜ Within answer buffer ⌝ }
+{
+    let Answer::Output(_, n) = answer else {
+        io::write_all(STDERR_FILENO, b"place: standard input cannot be read\n");
+        return;
+    };
+    if !io::write_all(STDOUT_FILENO, &buffer[..n]) {
+        io::write_all(STDERR_FILENO, b"place: standard output cannot be written\n");
+    }
+}
+
+// Answers the list on standard input.
+pub(crate) fn answer_input() {
+    let mut text = [0u8; TextLimits::TEXT];
+    let mut buffer = [0u8; TextLimits::SHEET];
+    write_answer(reply(&mut text, &mut buffer), buffer);
+}

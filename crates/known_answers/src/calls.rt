@@ -22,7 +22,7 @@ use plan::plan::Planned;
 use plan::sheet::write;
 use test_text::put_bytes;
 use test_text::within;
-ghost use Rattle.plan.specs.rules.Plan.{Valid};
+ghost use Rattle.plan.specs.calls.Plan.{Valid};
 
 // The plan, how many bytes were lent last, and how many bytes the answer has.
 pub struct State {

@@ -8,7 +8,7 @@ use crate::words::from;
 use plan::limits::TextLimits;
 use std::num::wrapping_add_u64;
 use test_text::within;
-ghost use Rattle.plan.specs.rules.Plan.{Valid};
+ghost use Rattle.plan.specs.calls.Plan.{Valid};
 
 // How many cases were asked, and how many came right. A count would wrap only past 2^64 cases.
 struct Tally {

@@ -40,7 +40,7 @@ GotSome Failed = Unit {0}
 
 -- One read from `from` on: its bytes are counted and lie within the room, those before them stay, and there is one or more, or none
 -- will come.
-pub record Onward (from : ℕ) (before : List ℕ) (r : Reading) (room : List ℕ) : Type 0 where
+pub record ReadBehind (from : ℕ) (before : List ℕ) (r : Reading) (room : List ℕ) : Type 0 where
   pub counted : r .at ≡ from + bytesOf (r .last)
   pub within : r .at ≤ length room
   pub kept : take from room ≡ take from before
@@ -48,10 +48,10 @@ pub record Onward (from : ℕ) (before : List ℕ) (r : Reading) (room : List �
 
 -- Reads one after another, into a room that is empty at the start: while bytes may come, one read more, which puts its bytes behind those
 -- before it and leaves these as they were.
-pub data Reads (start : List ℕ) : Reading → List ℕ → Type 0 where
-  none-yet : Reads start (record { at = 0; last = Got 0 }) start
-  once-more : {r next : Reading} {room after : List ℕ} → Reads start r room → 0 < roomLeft r room → Onward (r .at) room next after
-      → Reads start next after
+pub data InputReads (start : List ℕ) : Reading → List ℕ → Type 0 where
+  none-yet : InputReads start (record { at = 0; last = Got 0 }) start
+  once-more : {r next : Reading} {room after : List ℕ} → InputReads start r room → 0 < roomLeft r room → ReadBehind (r .at) room next after
+      → InputReads start next after
 
 -- Reading is over: the bytes lie within the room, and the room is full, or the input ended, or a read failed.
 pub record Finished (r : Reading) (room : List ℕ) : Type 0 where

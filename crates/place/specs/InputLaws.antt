@@ -14,7 +14,7 @@ use Rattle.libc.specs.Io.{Moved}
 use Rattle.place.specs.declared.answer.Reading.{Reading}
 use Rattle.place.specs.declared.answer.Step.{Step}
 use Rattle.place.specs.declared.answer.Step.the-variants.{Got, Ended, Failed}
-use Rattle.place.specs.Input.{GotSome, Onward, bytesOf, leftAfter, roomLeft, stepOf}
+use Rattle.place.specs.Input.{GotSome, ReadBehind, bytesOf, leftAfter, roomLeft, stepOf}
 
 -- An answer below zero is a failure.
 pub below-zero-fails : (z : ℤ) → ltZ z (pos 0) ≡ true → Failed ≡ stepOf z
@@ -71,7 +71,7 @@ less-after (Got n) from to room counted some inside = omega arith
 less-after Ended from to room counted some inside = omega arith
 less-after Failed from to room counted some inside = omega arith
 
-pub left-falls : (r next : Reading) (room after : List ℕ) → 0 < roomLeft r room → length after ≡ length room → Onward (r .at) room next after
+pub left-falls : (r next : Reading) (room after : List ℕ) → 0 < roomLeft r room → length after ≡ length room → ReadBehind (r .at) room next after
     → roomLeft next after < roomLeft r room
 left-falls r next room after some same onward =
     omega (

@@ -5,13 +5,13 @@ use mathlib.Core.List.{List}
 use Prim.Native.Nat.{ℕ, _≤_}
 use lib.ListN.{length, take}
 use Rattle.plan.specs.rules.List.{longestText}
-use Rattle.plan.specs.rules.Output.{outputOf}
+use Rattle.plan.specs.deciding.Output.{outputOf}
 use Rattle.plan.specs.Demands.{Answered}
 use Rattle.place.specs.declared.answer.Reading.{Reading}
 use Rattle.place.specs.declared.answer.Answer.{Answer}
 use Rattle.place.specs.declared.answer.Answer.the-variants.{Output, Unread}
 use Rattle.place.specs.declared.answer.Step.the-variants.{Failed}
-use Rattle.place.specs.Input.{Reads, Finished, Sound}
+use Rattle.place.specs.Input.{InputReads, Finished, Sound}
 
 -- The first n bytes of the buffer are the output for every input of which the bytes read are the first 5,061: "these already decide
 -- every longer text". It meets the demands.
@@ -23,7 +23,7 @@ pub record OutputFor (read : List ℕ) (n : ℕ) (buffer : List ℕ) : Type 0 wh
 -- The input was read into the room, which came with these bytes, by reads one after another, until reading was over; "at most 5,061
 -- bytes".
 pub record InputRead (start room : List ℕ) (reading : Reading) : Type 0 where
-  pub reads : Reads start reading room
+  pub reads : InputReads start reading room
   pub finished : Finished reading room
   pub size : length room ≡ longestText
 

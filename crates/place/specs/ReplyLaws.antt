@@ -7,10 +7,10 @@ use lib.ListN.{length, take, drop}
 use lib.Seq.{take-at}
 use Rattle.plan.specs.rules.List.{longestText}
 use Rattle.plan.specs.rules.Calls.{filledWith}
-use Rattle.plan.specs.rules.Output.{outputOf}
+use Rattle.plan.specs.deciding.Output.{outputOf}
 use Rattle.plan.specs.Demands.{Answered}
 use Rattle.plan.specs.theorems.Longer.{output-first}
-use Rattle.plan.specs.theorems.OutputLaws.{output-answered, output-within}
+use Rattle.plan.specs.theorems.Output.{output-answered, output-within}
 use Rattle.place.specs.declared.answer.Answer.{Answer}
 use Rattle.place.specs.declared.answer.Answer.the-variants.{Output, Unread}
 use Rattle.place.specs.Reply.{OutputFor, Replied, Within}

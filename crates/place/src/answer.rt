@@ -8,7 +8,7 @@ use plan::output::output;
 ghost use mathlib.Core.Path.{_≡_};
 ghost use Prim.Native.Nat.{_≤_, _<_};
 ghost use lib.ListN.{length};
-ghost use Rattle.place.specs.Input.{Finished, Onward, Reads, bytesOf, roomLeft, stepOf};
+ghost use Rattle.place.specs.Input.{Finished, ReadBehind, InputReads, bytesOf, roomLeft, stepOf};
 ghost use Rattle.plan.specs.rules.List.{longestText};
 ghost use Rattle.place.specs.Reply.{Replied, Within};
 
@@ -72,7 +72,7 @@ fn room_left(reading: Reading, room: &[u8]) -> usize
 // One read into what is left of the room.
 fn read_once(text: &mut [u8], at: usize) -> Reading
     requires { ⌜ at < length (now text) ⌝ }
-    ensures { λ r. ⌜ Onward at (now (text .entry)) r (now (text .exit)) ⌝ }
+    ensures { λ r. ⌜ ReadBehind at (now (text .entry)) r (now (text .exit)) ⌝ }
 {
     let got = libc::read(STDIN_FILENO, &mut text[at..]);
     let step = step_of(got);
@@ -84,7 +84,7 @@ fn read_once(text: &mut [u8], at: usize) -> Reading
 
 // Reads until the input ends, a read fails or the room is full, however the bytes arrive.
 fn read_input(text: &mut [u8]) -> Reading
-    ensures reads { λ r. ⌜ Reads (now (text .entry)) r (now (text .exit)) ⌝ }
+    ensures reads { λ r. ⌜ InputReads (now (text .entry)) r (now (text .exit)) ⌝ }
     ensures finished { λ r. ⌜ Finished r (now (text .exit)) ⌝ }
 {
     let mut reading = Reading {

@@ -1,34 +1,28 @@
 -- A list that may be placed: document 01, "Units and limits". Sites are looked at one after another, each against those before it.
 -- Assumes nothing.
-use mathlib.Core.Path.{_≡_, sym}
-use mathlib.Core.Logic.{_≢_}
-use mathlib.Core.Bool.{Bool, true, false, not, false≢true}
+use mathlib.Core.Path.{_≡_, sym, ap, subst}
+use mathlib.Core.Logic.{_≢_, Ne·symm}
+use mathlib.Core.Bool.{Bool, true, false, false≢true}
 use mathlib.Core.List.{List}
 use Prim.Native.Nat.{ℕ, _+_, _*_, _≤_, _<_}
 use native.Mathlib.Nat.{not-suc-le-zero, mul-le-mul-right}
 use native.Mathlib.Omega.{arith}
 use native.Mathlib.Decide.{decLt}
-use lib.Dec.{eqb}
 use borrow.Author.Count.{below-more}
-use borrow.Author.Tests.{eqb-false, not-true}
 use lib.ListN.{length, take}
 use lib.Seq.{getD-take, length-take-le}
 use Rattle.placing.specs.declared.units.Place.{Place}
-use Rattle.placing.specs.rules.Units.{yOf, Same, Distinct, InRange, OnPlan, siteAt, nowhere}
-use Rattle.placing.specs.rules.Placing.{MayPlace}
+use Rattle.placing.specs.rules.Units.{Axis, along, Distinct, InRange, OnPlan, siteAt, nowhere}
+use Rattle.placing.specs.calls.Placing.{MayPlace}
 
 -- A yes means that P holds.
 pub record Where (yes : Bool) (P : Type 0) : Type 0 where
   pub holds : yes ≡ true → P
 
--- Two places differ.
-pub record Apart (s t : Place) : Type 0 where
-  pub apart : Same s t → ⊥
-
 -- Site number i is in range and apart from those before it.
 pub record Fresh (sites : List Place) (i : ℕ) : Type 0 where
   pub on-plan : OnPlan (siteAt sites i)
-  pub earlier : (j : ℕ) → j < i → Apart (siteAt sites j) (siteAt sites i)
+  pub earlier : (j : ℕ) → j < i → siteAt sites j ≢ siteAt sites i
 
 -- The first n sites may be placed.
 pub record Ready (n : ℕ) (sites : List Place) : Type 0 where
@@ -39,7 +33,7 @@ pub record Ready (n : ℕ) (sites : List Place) : Type 0 where
 
 -- The sites below j are apart from s.
 pub record ApartBelow (sites : List Place) (s : Place) (j : ℕ) : Type 0 where
-  pub earlier : (k : ℕ) → k < j → Apart (siteAt sites k) s
+  pub earlier : (k : ℕ) → k < j → siteAt sites k ≢ s
 
 -- The sites below i are fresh.
 pub record FreshBelow (sites : List Place) (i : ℕ) : Type 0 where
@@ -49,21 +43,21 @@ pub record FreshBelow (sites : List Place) (i : ℕ) : Type 0 where
 pub said-no : {P : Type 0} → Where false P
 said-no = record { holds = λ e. absurd (false≢true e) }
 
--- Places that differ along y are apart.
-pub apart-along-y : {s t : Place} → Where (not (eqb (yOf s) (yOf t))) (Apart s t)
-apart-along-y = record { holds = λ e. record { apart = λ same. eqb-false _ _ (not-true _ e) (same .same-y) } }
+-- Places that differ along an axis differ.
+pub apart-along : {s t : Place} (axis : Axis) → along axis s ≢ along axis t → s ≢ t
+apart-along axis differ same = differ (ap (along axis) same)
 
 -- Below 0 there is no site to be apart from.
 pub apart-none : {sites : List Place} {s : Place} → ApartBelow sites s 0
-apart-none = record { earlier = λ k h. absurd (not-suc-le-zero h) }
+apart-none = record { earlier = λ k none. absurd (not-suc-le-zero none) }
 
 -- Apart from one more.
-pub apart-more : {sites : List Place} {s : Place} {j : ℕ} → ApartBelow sites s j → Apart (siteAt sites j) s → ApartBelow sites s (j + 1)
+pub apart-more : {sites : List Place} {s : Place} {j : ℕ} → ApartBelow sites s j → siteAt sites j ≢ s → ApartBelow sites s (j + 1)
 apart-more below next = record { earlier = below-more _ _ (below .earlier) next }
 
 -- Below 0 there is no site to be fresh.
 pub fresh-none : {sites : List Place} → FreshBelow sites 0
-fresh-none = record { each = λ k h. absurd (not-suc-le-zero h) }
+fresh-none = record { each = λ k none. absurd (not-suc-le-zero none) }
 
 -- One more is fresh.
 pub fresh-more : {sites : List Place} {i : ℕ} → FreshBelow sites i → Fresh sites i → FreshBelow sites (i + 1)
@@ -74,24 +68,23 @@ pub fresh-site : {sites : List Place} {i : ℕ} {yes : Bool} → ApartBelow site
     → Where yes (Fresh sites i)
 fresh-site below on = record { holds = λ e. record { on-plan = on .holds e; earlier = below .earlier } }
 
-module _ {n : ℕ} {sites : List Place} (listed : n ≤ length sites) (fresh : FreshBelow sites n) where
+module _ {n : ℕ} {sites : List Place} (enough : n ≤ length sites) (fresh : FreshBelow sites n) where
   -- What the first n sites hold is numbered below n, ..
   counted : (i : ℕ) → i < length (take n sites) → i < n
-  counted i h = omega (arith, length-take-le n sites listed)
+  counted i listed = omega (arith, length-take-le n sites enough)
 
   -- .. and is the site of that number.
   same-site : (i : ℕ) → i < n → siteAt (take n sites) i ≡ siteAt sites i
-  same-site i h = getD-take n sites i nowhere h
+  same-site i below = getD-take n sites i nowhere below
 
   -- Of two sites the later is apart from the earlier.
-  later-apart : (i j : ℕ) → i < j → j < n → Same (siteAt (take n sites) i) (siteAt (take n sites) j) → ⊥
-  later-apart i j before h = rw (same-site i (omega arith), same-site j h) (fresh .each j h .earlier i before .apart)
+  later-apart : (i j : ℕ) → i < j → j < n → siteAt (take n sites) i ≢ siteAt (take n sites) j
+  later-apart i j before below = rw (same-site i (omega arith), same-site j below) (fresh .each j below .earlier i before)
 
   -- So are any two.
-  either-apart : (i j : ℕ) → i < n → j < n → i ≢ j → Same (siteAt (take n sites) i) (siteAt (take n sites) j) → Dec (i < j) → ⊥
-  either-apart i j h k differ same (yes before) = later-apart i j before k same
-  either-apart i j h k differ same (no after) =
-      later-apart j i (omega arith) h (record { same-x = sym (same .same-x); same-y = sym (same .same-y) })
+  either-apart : (i j : ℕ) → i < n → j < n → i ≢ j → Dec (i < j) → siteAt (take n sites) i ≢ siteAt (take n sites) j
+  either-apart i j below other differ (yes before) = later-apart i j before other
+  either-apart i j below other differ (no after) = Ne·symm (later-apart j i (omega arith) below)
 
   -- Sites that are all fresh may be placed.
   pub fresh-ready : 1 ≤ n → n ≤ 240 → Ready n sites
@@ -100,11 +93,10 @@ module _ {n : ℕ} {sites : List Place} (listed : n ≤ length sites) (fresh : F
         some-sites = some-sites;
         few = few;
         distinct = record {
-          distinct = λ i j h k differ same. either-apart i j (counted i h) (counted j k) differ same (decLt i j);
+          distinct = λ i j listed other differ. either-apart i j (counted i listed) (counted j other) differ (decLt i j);
         };
         in-range = record {
-          x-range = λ i h. rw (same-site i (counted i h)) (fresh .each i (counted i h) .on-plan .on-x .range);
-          y-range = λ i h. rw (same-site i (counted i h)) (fresh .each i (counted i h) .on-plan .on-y .range);
+          in-range = λ i listed. subst OnPlan (sym (same-site i (counted i listed))) (fresh .each i (counted i listed) .on-plan);
         };
       }
 

@@ -1,13 +1,14 @@
 // Whether a list may be placed: some sites and not too many, coordinates in range, places distinct.
 use placing::units::Limits;
 use placing::units::Place;
+ghost use mathlib.Core.Logic.{_≢_};
 ghost use Prim.Native.Nat.{_<_};
-ghost use Rattle.placed_lists.specs.Ready.{Apart, Fresh, Ready, Where};
+ghost use Rattle.placed_lists.specs.Ready.{Fresh, Ready, Where};
 ghost use Rattle.placing.specs.rules.Units.{OnPlan};
 
 // Two places differ.
 fn apart(s: Place, t: Place) -> bool
-    ensures { λ r. ⌜ Where r (Apart s t) ⌝ }
+    ensures { λ r. ⌜ Where r (s ≢ t) ⌝ }
 {
     if s.x.0 == t.x.0 { s.y.0 != t.y.0 } else { true }
 }

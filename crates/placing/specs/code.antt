@@ -1,13 +1,14 @@
 -- What the functions ask and promise, in terms of the arrays that they hold.
 pub mod Sites
 pub mod Labels
+pub mod Filled
 pub mod Reach
 pub mod Crowding
 pub mod Ways
 pub mod Asks
 pub mod Carry
 pub mod Marks
-pub mod Onward
+pub mod CarryOn
 pub mod Fresh
 pub mod Walking
 pub mod Chosen

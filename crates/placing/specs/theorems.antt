@@ -1,7 +1,17 @@
--- What follows from the rules: the facts that the method stands on, and a test of an answer that the checker computes.
-pub mod Common
+-- What follows from the rules. First the laws of each page of rules/, under its name, with those of axes, directions and corners.
+pub mod Corner
+pub mod Label
+pub mod Crowd
+pub mod Choice
+pub mod Answer
+-- Labels meet exactly when they cover a point in common.
+pub mod CommonPoint
+-- The greatest side of labels is the supremum of the sides of closed squares.
 pub mod Supremum
-pub mod TwoWays
-pub mod Twice
-pub mod Prune
-pub mod Checked
+-- Of a site's uncrowded corners at most two have a label that meets another.
+pub mod AtMostTwo
+-- Above twice the answer's side every choice has two labels that meet.
+pub mod FactorTwo
+-- A search for the first good choice that a checker can run, and a test of an answer by it.
+pub mod PrunedSearch
+pub mod CheckedAnswer

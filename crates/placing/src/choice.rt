@@ -7,7 +7,7 @@ use crate::units::HalfUnits;
 use crate::units::Limits;
 ghost use mathlib.Core.Path.{_≡_};
 ghost use Prim.Native.Nat.{_+_, _<_};
-ghost use Rattle.placing.specs.rules.Answer.{firstGood};
+ghost use Rattle.placing.specs.deciding.Answer.{firstGood};
 ghost use Rattle.placing.specs.code.Sites.{sitesOf};
 ghost use Rattle.placing.specs.code.Labels.{labels};
 ghost use Rattle.placing.specs.code.Ways.{Tried, WalkedTo, Kept};
@@ -63,7 +63,7 @@ fn choose_corner(
     if decided[i] != 0 {
         return true;
     }
-    for e in 0..4 {
+    for e in 0..Limits::CORNERS {
         if try_open(xs, ys, n, side, ways, decided, marks, i, e) {
             return true;
         }

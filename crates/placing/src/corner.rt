@@ -2,6 +2,7 @@
 ghost use mathlib.Core.Path.{_≡_};
 ghost use lib.Dec.{eqb};
 ghost use Rattle.placing.specs.rules.Corner.{upWhere, directionsOf, Corner};
+ghost use Rattle.placing.specs.deciding.Decides.{Decides};
 
 // Which way a label goes from its site: up the axis (to the right, upwards) or down it.
 pub(crate) enum Direction {
@@ -37,4 +38,20 @@ pub(crate) fn directions_of(corner: u8) -> Directions
         x: direction_from(DIRECTIONS[at]),
         y: direction_from(DIRECTIONS[at + 1]),
     }
+}
+
+fn is_up(d: Direction) -> bool
+    ensures { λ r. ⌜ d ≡ upWhere r ⌝ }
+{
+    match d {
+        Direction::Up => true,
+        Direction::Down => false,
+    }
+}
+
+// The two directions are one.
+pub(crate) fn same_direction(d: Direction, e: Direction) -> bool
+    ensures { λ r. ⌜ Decides r (d ≡ e) ⌝ }
+{
+    is_up(d) == is_up(e)
 }

@@ -1,22 +1,24 @@
-// The rules of document 01 for two sites: overlap along one axis, the pair test, and the doubled label that crowds.
-// Distances are turned into half units, and half units are compared with half units only.
+// The rules of document 01 for two sites: overlap along one axis, the pair test, and which way a site lies. Distances are in half units.
 use crate::corner::Direction;
+use crate::corner::Directions;
 use crate::corner::directions_of;
+use crate::corner::same_direction;
 use crate::units::HalfUnits;
 use crate::units::Place;
 use crate::units::Units;
 ghost use mathlib.Core.Path.{_≡_};
-ghost use Rattle.placing.specs.rules.Units.{halves, dist, OnAxis, OnPlan, Judged};
-ghost use Rattle.placing.specs.rules.Decides.{Decides};
-ghost use Rattle.placing.specs.rules.Corner.{Corner};
-ghost use Rattle.placing.specs.rules.Meet.{Overlap, Meet};
-ghost use Rattle.placing.specs.rules.Crowd.{Ahead, DoubledCovers};
-ghost use Rattle.placing.specs.declared.corner.Direction.the-variants.{Up};
+ghost use Prim.Native.Nat.{ℕ, _≤_};
+ghost use Rattle.placing.specs.rules.Units.{greatestCoordinate, inHalfUnits, dist, OnPlan};
+ghost use Rattle.placing.specs.code.Sites.{Judged};
+ghost use Rattle.placing.specs.rules.Corner.{Corner, directionsOf};
+ghost use Rattle.placing.specs.rules.Label.{Onward, Overlap, Meet};
+ghost use Rattle.placing.specs.deciding.Decides.{Decides};
+ghost use Rattle.placing.specs.code.Reach.{LiesToward, distanceBetween};
 
 // The distance between two coordinates of an axis.
 pub(crate) fn distance(a: Units, b: Units) -> HalfUnits
-    requires { ⌜ OnAxis a × OnAxis b ⌝ }
-    ensures { λ r. ⌜ r .0 ≡ halves (dist (a .0) (b .0)) ⌝ }
+    requires { ⌜ (a .0 ≤ greatestCoordinate) × (b .0 ≤ greatestCoordinate) ⌝ }
+    ensures { λ r. ⌜ r .0 ≡ inHalfUnits (dist (a .0) (b .0)) ⌝ }
 {
     if a.0 <= b.0 {
         Units(b.0 - a.0).in_half_units()
@@ -25,82 +27,67 @@ pub(crate) fn distance(a: Units, b: Units) -> HalfUnits
     }
 }
 
-// Two labels that go the same way: they overlap where the side is above the distance.
-fn same_way(side: HalfUnits, a: Units, b: Units) -> bool
-    requires { ⌜ OnAxis a × OnAxis b ⌝ }
-    ensures { λ r. ⌜ Decides r (Overlap (side .0) 1 Up (a .0) Up (b .0)) ⌝ }
+// The distance between two places: the larger of their distances along the axes.
+pub(crate) fn distance_between(s: Place, t: Place) -> HalfUnits
+    requires { ⌜ OnPlan s × OnPlan t ⌝ }
+    ensures { λ r. ⌜ r .0 ≡ distanceBetween s t ⌝ }
 {
-    distance(a, b).0 < side.0
+    distance(s.x, t.x).larger(distance(s.y, t.y))
 }
 
-// Measured from `from`, `to` lies at 0 or more and nearer than the doubled side.
-fn from_to(side: HalfUnits, from: Units, to: Units) -> bool
-    requires { ⌜ OnAxis from × OnAxis to × Judged side ⌝ }
-    ensures { λ r. ⌜ Decides r (Ahead (side .0) Up (from .0) (to .0)) ⌝ }
+// Measured from `a` in direction `d`, `b` lies at 0 or more.
+fn onward(d: Direction, a: Units, b: Units) -> bool
+    ensures { λ r. ⌜ Decides r (Onward d (a .0) (b .0)) ⌝ }
 {
-    if from.0 <= to.0 {
-        Units(to.0 - from.0).in_half_units().0 < side.doubled().0
+    match d {
+        Direction::Up => a.0 <= b.0,
+        Direction::Down => b.0 <= a.0,
+    }
+}
+
+// The place `t` lies at 0 or more in both directions of corner `c` of `s`.
+pub(crate) fn lies_toward(s: Place, c: u8, t: Place) -> bool
+    requires { ⌜ Corner c ⌝ }
+    ensures { λ r. ⌜ Decides r (LiesToward s c t) ⌝ }
+{
+    let d = directions_of(c);
+    let dx = d.x;
+    let dy = d.y;
+    if onward(dx, s.x, t.x) {
+        onward(dy, s.y, t.y)
     } else {
         false
     }
 }
 
-// Along one axis, the label that goes `d` from `a` overlaps the one that goes `e` from `b`.
-pub(crate) fn overlap(side: HalfUnits, d: Direction, a: Units, e: Direction, b: Units) -> bool
-    requires { ⌜ OnAxis a × OnAxis b × Judged side ⌝ }
+// Along one axis, the label that goes `d` from `a` overlaps the one that goes `e` from `b`. Two that face each other reach twice the side
+// together.
+fn overlap(side: HalfUnits, d: Direction, a: Units, e: Direction, b: Units) -> bool
+    requires { ⌜ (a .0 ≤ greatestCoordinate) × (b .0 ≤ greatestCoordinate) × Judged side ⌝ }
     ensures { λ r. ⌜ Decides r (Overlap (side .0) 1 d (a .0) e (b .0)) ⌝ }
 {
-    match d {
-        Direction::Up => match e {
-            Direction::Up => same_way(side, a, b),
-            Direction::Down => from_to(side, a, b),
-        },
-        Direction::Down => match e {
-            Direction::Up => from_to(side, b, a),
-            Direction::Down => same_way(side, a, b),
-        },
+    if same_direction(d, e) {
+        return distance(a, b).below(side);
+    }
+    if onward(d, a, b) {
+        distance(a, b).below(side.doubled())
+    } else {
+        false
     }
 }
 
-// The pair test: the label at corner `c` of `s` meets the label at corner `e` of `t`.
-pub(crate) fn meet(side: HalfUnits, s: Place, c: u8, t: Place, e: u8) -> bool
-    requires { ⌜ OnPlan s × OnPlan t × Corner c × Corner e × Judged side ⌝ }
-    ensures { λ r. ⌜ Decides r (Meet (side .0) 1 s c t e) ⌝ }
+// The pair test: the label of `s` in the directions `d` meets the label of `t` in the directions `f`. Directions are asked for, not
+// corners: a caller who looks at equal corners reads the table once.
+pub(crate) fn meet(side: HalfUnits, s: Place, d: Directions, t: Place, f: Directions) -> bool
+    requires { ⌜ OnPlan s × OnPlan t × Judged side ⌝ }
+    ensures { λ r. ⌜ ((c e : ℕ) → d ≡ directionsOf c → f ≡ directionsOf e → Decides r (Meet (side .0) 1 s c t e)) ⌝ }
 {
-    let d = directions_of(c);
-    let f = directions_of(e);
     let dx = d.x;
     let fx = f.x;
     let dy = d.y;
     let fy = f.y;
     if overlap(side, dx, s.x, fx, t.x) {
         overlap(side, dy, s.y, fy, t.y)
-    } else {
-        false
-    }
-}
-
-// Along one axis, `to` lies ahead of `from` in direction `d`, nearer than the doubled side.
-pub(crate) fn ahead(side: HalfUnits, d: Direction, from: Units, to: Units) -> bool
-    requires { ⌜ OnAxis from × OnAxis to × Judged side ⌝ }
-    ensures { λ r. ⌜ Decides r (Ahead (side .0) d (from .0) (to .0)) ⌝ }
-{
-    match d {
-        Direction::Up => from_to(side, from, to),
-        Direction::Down => from_to(side, to, from),
-    }
-}
-
-// The doubled label at corner `c` of `s` covers the place `t`.
-pub(crate) fn doubled_covers(side: HalfUnits, s: Place, c: u8, t: Place) -> bool
-    requires { ⌜ OnPlan s × OnPlan t × Corner c × Judged side ⌝ }
-    ensures { λ r. ⌜ Decides r (DoubledCovers (side .0) s c t) ⌝ }
-{
-    let d = directions_of(c);
-    let dx = d.x;
-    let dy = d.y;
-    if ahead(side, dx, s.x, t.x) {
-        ahead(side, dy, s.y, t.y)
     } else {
         false
     }

@@ -8,8 +8,9 @@ ghost use mathlib.Core.Path.{_≡_};
 ghost use mathlib.Core.List.{_++_};
 ghost use Prim.Native.Nat.{_*_, _≤_};
 ghost use lib.ListN.{length, take, drop, replicate};
-ghost use Rattle.placing.specs.rules.Answer.{answerOf, sideNumber};
-ghost use Rattle.placing.specs.rules.Placing.{placedAs, MayPlace};
+ghost use Rattle.placing.specs.rules.Answer.{sideNumber};
+ghost use Rattle.placing.specs.calls.Placing.{placedAs, MayPlace};
+ghost use Rattle.placing.specs.deciding.Answer.{answerOf};
 
 // Zeroes the first `m` bytes of a table.
 fn clear(table: &mut [u8], m: usize)

@@ -11,10 +11,10 @@ ghost use mathlib.Core.List.{_++_};
 ghost use Prim.Native.Nat.{_-_, _≤_, _<_};
 ghost use lib.ListN.{take, replicate};
 ghost use Rattle.placing.specs.rules.Units.{mostSites};
-ghost use Rattle.placing.specs.rules.Answer.{answerOf};
+ghost use Rattle.placing.specs.deciding.Answer.{answerOf};
 ghost use Rattle.placing.specs.code.Sites.{sitesOf};
 ghost use Rattle.placing.specs.code.Ways.{Kept};
-ghost use Rattle.placing.specs.rules.Placing.{placedAs};
+ghost use Rattle.placing.specs.calls.Placing.{placedAs};
 ghost use Rattle.placing.specs.code.Placed.{MayFind, MayBisect};
 ghost use Rattle.placing.specs.code.Bisect.{NextIs, MayNarrow, Narrowed, SideIs};
 
@@ -92,10 +92,10 @@ fn narrow(
 fn side_of(greatest: HalfUnits) -> Side
     ensures { λ r. ⌜ SideIs greatest r ⌝ }
 {
-    if greatest.0 == Limits::FREE_SIDE {
-        Side::Free
-    } else {
+    if greatest.below(HalfUnits(Limits::FREE_SIDE)) {
         Side::Number(greatest)
+    } else {
+        Side::Free
     }
 }
 
@@ -119,7 +119,7 @@ fn bisect(
         next: top,
         corners: [1u8; Limits::SITES],
     };
-    while between.low.0 < between.next.0 {
+    while between.low.below(between.next) {
         between = narrow(xs, ys, n, crowding, between, marks);
     }
     let corners = between.corners;

@@ -1,11 +1,14 @@
-// The form in which a trial holds a list of places: an array for each axis, since a trial reads single numbers.
+// The form in which a trial holds a list of places: an array for each axis, since a trial reads single numbers. And where what it holds of
+// a corner stands.
 use crate::units::Limits;
 use crate::units::Place;
 use crate::units::Units;
 ghost use mathlib.Core.Path.{_≡_};
-ghost use Prim.Native.Nat.{_≤_};
+ghost use Prim.Native.Nat.{_≤_, _<_};
 ghost use Rattle.placing.specs.rules.Units.{mostSites};
-ghost use Rattle.placing.specs.code.Sites.{CoordinatesOf, placeOf};
+ghost use Rattle.placing.specs.rules.Corner.{Corner};
+ghost use Rattle.placing.specs.search.Rows.{wayOf};
+ghost use Rattle.placing.specs.code.Sites.{CoordinatesOf, placeAt};
 
 // The places of a list.
 pub(crate) struct Coordinates {
@@ -28,11 +31,19 @@ pub(crate) fn coordinates_of(sites: [Place; Limits::SITES], n: usize) -> Coordin
 }
 
 // The place at two coordinates.
-pub(crate) fn place_of(x: u32, y: u32) -> Place
-    ensures { λ r. ⌜ r ≡ placeOf x y ⌝ }
+pub(crate) fn place_at(x: u32, y: u32) -> Place
+    ensures { λ r. ⌜ r ≡ placeAt x y ⌝ }
 {
     Place {
         x: Units(x),
         y: Units(y),
     }
+}
+
+// Where corner `c` of site `i` stands in an array of `Limits::WAYS`: the corners of a site follow one another, corner 1 first.
+pub(crate) fn way_of(i: usize, c: u8) -> usize
+    requires { ⌜ (i < mostSites) × Corner c ⌝ }
+    ensures { λ r. ⌜ r ≡ wayOf i c ⌝ }
+{
+    4 * i + (c as usize - 1)
 }

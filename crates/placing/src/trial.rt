@@ -2,20 +2,23 @@
 // a site left with one corner is decided too. Four bytes a site say which corners are open, one byte which is decided; a byte
 // of the lent table marks a site whose decision has been carried out. The arrays are lent; a trial keeps a copy
 // of them as they came, to put back where it fails.
+use crate::corner::directions_of;
 use crate::geometry::meet;
-use crate::sites::place_of;
+use crate::sites::place_at;
+use crate::sites::way_of;
 use crate::units::HalfUnits;
 use crate::units::Limits;
 ghost use mathlib.Core.Path.{_≡_};
-ghost use Prim.Native.Nat.{ℕ, _≤_, _<_};
+ghost use Prim.Native.Nat.{ℕ, _*_, _≤_, _<_};
 ghost use lib.ListN.{length, set};
-ghost use Rattle.placing.specs.rules.Units.{mostSites, Judged};
+ghost use Rattle.placing.specs.rules.Units.{mostSites};
 ghost use Rattle.placing.specs.rules.Corner.{Corner};
-ghost use Rattle.placing.specs.search.Rows.{rowAt};
+ghost use Rattle.placing.specs.search.Rows.{rowOf};
 ghost use Rattle.placing.specs.code.Labels.{labels};
-ghost use Rattle.placing.specs.rules.Decides.{Decides};
-ghost use Rattle.placing.specs.code.Sites.{HasPlace};
-ghost use Rattle.placing.specs.code.Ways.{oneOrMore, LeftIs, Sizes, TakenCorner, ClosedCorner, Clash, CarriedThere, CarriedOut, Waits, FirstWaiting, Kept, markOf, Marked, CarriedOn, Tried};
+ghost use Rattle.placing.specs.deciding.Decides.{Decides};
+ghost use Rattle.placing.specs.code.Sites.{HasPlace, Judged};
+ghost use Rattle.placing.specs.code.Ways.{Sizes, oneMore, LeftIs, TakenCorner, ClosedCorner, Clash, CarriedThere, CarriedOut};
+ghost use Rattle.placing.specs.code.Ways.{Waits, FirstWaiting, Kept, markOf, Marked, CarriedOn, Tried};
 ghost use Rattle.placing.specs.code.Asks.{MayCarryTo, MayCarryOut, MayCarryOn, MayTry};
 
 // Which corners of a site are open: nothing, one, or more.
@@ -25,30 +28,29 @@ pub(crate) enum Left {
     More,
 }
 
-// An open corner, alone or with others.
-fn one_or_more(c: u8, others: bool) -> Left
-    ensures { λ r. ⌜ r ≡ oneOrMore c others ⌝ }
+// What is left with one open corner more.
+fn one_more(left: Left, c: u8) -> Left
+    ensures { λ r. ⌜ r ≡ oneMore left c ⌝ }
 {
-    if others { Left::More } else { Left::One(c) }
+    match left {
+        Left::Nothing => Left::One(c),
+        Left::One(_) => Left::More,
+        Left::More => Left::More,
+    }
 }
 
-// How many of a site's four corners are open, by its four bytes.
-fn left_of(a: u8, b: u8, c: u8, d: u8) -> Left
-    ensures { λ r. ⌜ LeftIs r (rowAt a b c d) ⌝ }
+// How many corners of site `j` are open, by its four bytes.
+fn left_of(ways: &[u8; Limits::WAYS], j: usize) -> Left
+    requires { ⌜ (length (now ways) ≡ 4 * mostSites) × (j < mostSites) ⌝ }
+    ensures { λ r. ⌜ LeftIs r (rowOf (now (ways .entry)) j) ⌝ }
 {
-    if a == 1 {
-        return one_or_more(1, b == 1 || c == 1 || d == 1);
+    let mut left = Left::Nothing;
+    for e in 0..Limits::CORNERS {
+        if ways[4 * j + e] == 1 {
+            left = one_more(left, (e + 1) as u8);
+        }
     }
-    if b == 1 {
-        return one_or_more(2, c == 1 || d == 1);
-    }
-    if c == 1 {
-        return one_or_more(3, d == 1);
-    }
-    if d == 1 {
-        return Left::One(4);
-    }
-    Left::Nothing
+    left
 }
 
 // Closes corner `c` of site `j`, and decides the site where one corner is left. No where none is.
@@ -61,10 +63,9 @@ fn close_corner(
     requires { ⌜ Sizes (now ways) (now decided) × (j < mostSites) × Corner c ⌝ }
     ensures { λ r. ⌜ ClosedCorner (now (ways .entry)) (now (decided .entry)) j c r (now (ways .exit)) (now (decided .exit)) ⌝ }
 {
-    let at = 4 * j;
-    let e = at + (c as usize - 1);
-    ways[e] = 0;
-    let left = left_of(ways[at], ways[at + 1], ways[at + 2], ways[at + 3]);
+    let at = way_of(j, c);
+    ways[at] = 0;
+    let left = left_of(ways, j);
     match left {
         Left::Nothing => false,
         Left::One(k) => {
@@ -90,7 +91,8 @@ fn clash(
     if j == k {
         return false;
     }
-    meet(side, place_of(xs[k], ys[k]), c, place_of(xs[j], ys[j]), c)
+    let d = directions_of(c);
+    meet(side, place_at(xs[k], ys[k]), d, place_at(xs[j], ys[j]), d)
 }
 
 // Carries the decision `c` of site `k` to site `j`: only its corner `c` can meet an uncrowded label at corner `c`. Site `k` itself
@@ -109,8 +111,8 @@ fn carry_to(
     ensures { λ r. ⌜ ((n : ℕ) → CarriedThere (labels (side .0) n (now (xs .entry)) (now (ys .entry)))
         (now (ways .entry)) (now (decided .entry)) k j r (now (ways .exit)) (now (decided .exit))) ⌝ }
 {
-    let e = 4 * j + (c as usize - 1);
-    if ways[e] == 1 {
+    let at = way_of(j, c);
+    if ways[at] == 1 {
         if clash(xs, ys, side, k, c, j) {
             return close_corner(ways, decided, j, c);
         }
@@ -234,13 +236,11 @@ fn take_corner(ways: &mut [u8; Limits::WAYS], decided: &mut [u8; Limits::SITES],
     requires { ⌜ Sizes (now ways) (now decided) × (i < mostSites) × Corner c ⌝ }
     ensures { λ r. ⌜ TakenCorner (now (ways .entry)) (now (decided .entry)) i c (now (ways .exit)) (now (decided .exit)) ⌝ }
 {
-    let at = 4 * i;
-    ways[at] = 0;
-    ways[at + 1] = 0;
-    ways[at + 2] = 0;
-    ways[at + 3] = 0;
-    let e = at + (c as usize - 1);
-    ways[e] = 1;
+    for e in 0..Limits::CORNERS {
+        ways[4 * i + e] = 0;
+    }
+    let at = way_of(i, c);
+    ways[at] = 1;
     decided[i] = c;
 }
 

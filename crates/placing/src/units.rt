@@ -1,7 +1,9 @@
 // Coordinates in units, sides in half units, and the one conversion between them.
 ghost use mathlib.Core.Path.{_≡_};
-ghost use Prim.Native.Nat.{_≤_, _/_};
-ghost use Rattle.placing.specs.rules.Units.{halves, doubled, greatestCoordinate, Judged};
+ghost use Prim.Native.Nat.{_*_, _≤_, _<_, _/_, max};
+ghost use Rattle.placing.specs.rules.Units.{inHalfUnits, greatestCoordinate};
+ghost use Rattle.placing.specs.code.Sites.{Judged};
+ghost use Rattle.placing.specs.deciding.Decides.{Decides};
 
 // A coordinate, or a distance between two, in units.
 pub struct Units(pub u32);
@@ -27,8 +29,10 @@ pub struct Limits();
 impl Limits {
     // The most sites of a plan.
     pub const SITES: usize = 240;
-    // A byte for each corner of each site.
-    pub const WAYS: usize = 4 * Limits::SITES;
+    // The corners of a site.
+    pub const CORNERS: usize = 4;
+    // A place for each corner of each site, one site after another.
+    pub const WAYS: usize = Limits::CORNERS * Limits::SITES;
     // The greatest coordinate, in units.
     pub const COORDINATE: u32 = 10_000;
     // The least and the greatest side, in half units.
@@ -43,17 +47,36 @@ impl Units {
     // The one conversion: a unit is two half units.
     pub(crate) fn in_half_units(self) -> HalfUnits
         requires { ⌜ self .0 ≤ greatestCoordinate ⌝ }
-        ensures { λ r. ⌜ r .0 ≡ halves (self .0) ⌝ }
+        ensures { λ r. ⌜ r .0 ≡ inHalfUnits (self .0) ⌝ }
     {
         HalfUnits(2 * self.0)
     }
 }
 
+// Half units are compared with half units only, by these methods.
 impl HalfUnits {
+    pub(crate) fn below(self, other: HalfUnits) -> bool
+        ensures { λ r. ⌜ Decides r (self .0 < other .0) ⌝ }
+    {
+        self.0 < other.0
+    }
+
+    pub(crate) fn at_most(self, other: HalfUnits) -> bool
+        ensures { λ r. ⌜ Decides r (self .0 ≤ other .0) ⌝ }
+    {
+        self.0 <= other.0
+    }
+
+    pub(crate) fn larger(self, other: HalfUnits) -> HalfUnits
+        ensures { λ r. ⌜ r .0 ≡ max (self .0) (other .0) ⌝ }
+    {
+        if self.0 <= other.0 { other } else { self }
+    }
+
     // Twice a side: the side of the doubled label, and how far two labels that face each other reach together.
     pub(crate) fn doubled(self) -> HalfUnits
         requires { ⌜ Judged self ⌝ }
-        ensures { λ r. ⌜ r .0 ≡ doubled (self .0) ⌝ }
+        ensures { λ r. ⌜ r .0 ≡ 2 * self .0 ⌝ }
     {
         HalfUnits(self.0 + self.0)
     }

@@ -5,8 +5,7 @@ use mathlib.Core.List.{List, [], _++_}
 use mathlib.Core.Option.{some}
 use Prim.Native.Nat.{ℕ, _+_, _*_, _≤_, _<_}
 use lib.ListN.{length, take}
-use Rattle.placing.specs.rules.Corners.{Corners}
-use Rattle.placing.specs.rules.Choice.{MeetingPair}
+use Rattle.placing.specs.rules.Choice.{Corners, MeetingPair}
 use Rattle.placing.specs.rules.Answer.{Answer, sideNumber, IsAnswer}
 use Rattle.plan.specs.declared.plan.AskedCorner.{AskedCorner}
 use Rattle.plan.specs.declared.plan.AskedSide.{AskedSide}
@@ -14,65 +13,64 @@ use Rattle.plan.specs.declared.plan.Plan.{Plan}
 use Rattle.plan.specs.declared.plan.Planned.{Planned}
 use Rattle.plan.specs.declared.plan.Written.{Written}
 use Rattle.plan.specs.declared.plan.Written.the-variants.{Bytes, NotWritten}
-use Rattle.plan.specs.rules.Text.{firstLine}
-use Rattle.plan.specs.rules.Site.{Site, placesOf}
-use Rattle.plan.specs.rules.Enter.{accepted}
-use Rattle.plan.specs.rules.List.{readList, listText}
-use Rattle.plan.specs.rules.Sheet.{sheetWith}
-use Rattle.plan.specs.rules.Plan.{unplaced, placed, sitesIn}
-use Rattle.plan.specs.rules.Calls.{outcomeNumber, sideAskedNumber, cornerAskedNumber, writtenNumber}
-use Rattle.plan.specs.rules.Calls.{started, enterNumber, lineNumber, placeNumber, askSideNumber, askCornerNumber, writeNumber}
-use Rattle.plan.specs.rules.ReadOff.{numberOn, spotsOn, carried}
-use Rattle.plan.specs.rules.Output.{numberLine, outputOf}
+use Rattle.plan.specs.rules.Refusal.{numberBy, accepted}
+use Rattle.plan.specs.rules.List.{Site, placesOf, listText, enterTests, wantedAt, TextLine, FirstLine, lineTests, Reads}
+use Rattle.plan.specs.rules.Sheet.{sheetWith, numberOn, spotsOn, carried, refusalLine}
+use Rattle.plan.specs.deciding.Output.{sheetOf, outputOf}
+use Rattle.plan.specs.rules.Calls.{placingTests, sideTests, cornerTests, writeTests}
+use Rattle.plan.specs.calls.Plan.{unplacedPlan, placedPlan, sitesIn}
+use Rattle.plan.specs.calls.Answers.{outcomeNumber, sideAskedNumber, cornerAskedNumber, writtenNumber, started}
 
 -- ---- demand 1: bad input is refused first, by its number, with plan and lent buffers as they were; all else ends in an answer
 
--- A call gives the number of the first of its tests that fails, and 0 where none does. "A refusal hands back its number, the plan as
--- it came, and every lent byte as it came."
+-- A call gives the number of the first row of its table whose test holds, and 0 where none does (`theorems/Tables` says
+-- what that tells). "A refusal hands back its number, the plan as it came, and every lent byte as it came."
 pub record Refuses {Given : Type 0} (given number : ℕ) (before after : Given) : Type 0 where
   pub number-is : given ≡ number
   pub as-it-came : (given ≡ 0 → ⊥) → after ≡ before
 
 -- Starting and counting refuse nothing. "Entering tests 2, 3, 7, 4, 5."
 abbrev pub EnterTold : Plan → List ℕ → (x y : ℕ) → Planned → Type 0
-EnterTold plan name x y r = Refuses (outcomeNumber (r .outcome)) (enterNumber (sitesIn plan) name x y) plan (r .plan)
+EnterTold plan name x y r = Refuses (outcomeNumber (r .outcome)) (numberBy (enterTests (sitesIn plan) (wantedAt name x y))) plan (r .plan)
 
 -- "Placing tests 8, 11": it is given a plan and a work table.
 abbrev pub PlaceTold : Plan → List ℕ → Planned → List ℕ → Type 0
 PlaceTold plan table r after =
-    Refuses {Given = Plan × List ℕ} (outcomeNumber (r .outcome)) (placeNumber plan table) (plan, table) (r .plan, after)
+    Refuses {Given = Plan × List ℕ} (outcomeNumber (r .outcome)) (numberBy (placingTests (plan .count) table)) (plan, table) (r .plan, after)
 
 -- Asking the side tests 9; it is lent nothing, and the plan stays with the caller.
 abbrev pub SideTold : Plan → AskedSide → Type 0
-SideTold plan r = sideAskedNumber r ≡ askSideNumber plan
+SideTold plan r = sideAskedNumber r ≡ numberBy (sideTests (plan .placed))
 
 -- "Asking a corner tests 9, 6."
 abbrev pub CornerTold : Plan → ℕ → AskedCorner → Type 0
-CornerTold plan i r = cornerAskedNumber r ≡ askCornerNumber plan i
+CornerTold plan i r = cornerAskedNumber r ≡ numberBy (cornerTests (plan .placed) (plan .count) i)
 
 -- "Writing tests 9, 10": it is lent a buffer.
 abbrev pub WriteTold : Plan → List ℕ → Written → List ℕ → Type 0
-WriteTold plan buffer r after = Refuses (writtenNumber r) (writeNumber plan buffer) buffer after
+WriteTold plan buffer r after =
+    Refuses (writtenNumber r) (numberBy (writeTests (plan .placed) (sheetOf (sitesIn plan)) buffer)) buffer after
 
 -- "Reading does so line after line with 1 before 2, and stops at the first refused line." Counted from 1, that is the line behind
--- those of the sites before it, which are accepted; its number is that of the first test that fails there.
+-- those of the sites before it, which are accepted; its number is that of the first row of a line's table whose test holds there.
 pub record FirstRefused (text : List ℕ) (number : ℕ) : Type 0 where
-  pub line : ℕ
+  pub line-number : ℕ
   pub before : List Site
   pub rest : List ℕ
-  pub line-is : line ≡ length before + 1
+  pub line : TextLine
+  pub line-number-is : line-number ≡ length before + 1
   pub parts : text ≡ listText before ++ rest
-  pub accepted-before : readList (listText before) ≡ accepted before
-  pub some-rest : 1 ≤ length rest
+  pub accepted-before : Reads [] (listText before) (accepted before)
+  pub line-is : FirstLine rest line
   pub some-number : 1 ≤ number
-  pub number-is : number ≡ lineNumber before (firstLine rest)
+  pub number-is : number ≡ numberBy (lineTests before line)
 
 -- A list of which every line is accepted: the plan has a site for each.
 pub record AllRead (text : List ℕ) (plan : Plan) : Type 0 where
   pub sites : List Site
-  pub read : readList text ≡ accepted sites
+  pub read : Reads [] text (accepted sites)
   pub every-line : listText sites ≡ text
-  pub plan-is : plan ≡ unplaced sites
+  pub plan-is : plan ≡ unplacedPlan sites
 
 -- "Reading is all or nothing": refused, it "hands back an empty plan".
 pub data ReadTold (text : List ℕ) (r : Planned) : Type 0 where
@@ -81,7 +79,7 @@ pub data ReadTold (text : List ℕ) (r : Planned) : Type 0 where
 
 -- A list that is accepted and has some sites.
 pub record Accepts (text : List ℕ) (sites : List Site) : Type 0 where
-  pub read : readList text ≡ accepted sites
+  pub read : Reads [] text (accepted sites)
   pub some-sites : 1 ≤ length sites
 
 -- Every other list is refused, with a number: that of its first refused line, or 8. "An empty text is a list of no sites."
@@ -92,7 +90,7 @@ pub data ListRefused (text : List ℕ) : ℕ → Type 0 where
 -- Reading a list and placing it.
 pub data ListTold (text : List ℕ) (r : Planned) : Type 0 where
   list-refused : ListRefused text (outcomeNumber (r .outcome)) → r .plan ≡ started → ListTold text r
-  list-placed : (sites : List Site) → Accepts text sites → outcomeNumber (r .outcome) ≡ 0 → r .plan ≡ placed sites → ListTold text r
+  list-placed : (sites : List Site) → Accepts text sites → outcomeNumber (r .outcome) ≡ 0 → r .plan ≡ placedPlan sites → ListTold text r
 
 -- ---- demand 3: at every side above twice the printed number, whole or fraction, any choice of corners has two labels that meet
 
@@ -136,5 +134,5 @@ pub record SheetFor (text sheet : List ℕ) : Type 0 where
 
 -- Every text has its answer: the line with the number, where it is refused, else its sheet.
 pub data Answered (text output : List ℕ) : Type 0 where
-  refusal-line : {number : ℕ} → ListRefused text number → output ≡ numberLine number → Answered text output
+  refusal-line : {number : ℕ} → ListRefused text number → output ≡ refusalLine number → Answered text output
   list-sheet : SheetFor text output → Answered text output

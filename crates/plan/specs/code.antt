@@ -1,14 +1,11 @@
 -- What the functions inside ask and promise, and the laws that their proofs cite.
-pub mod OneMore
 pub mod NameRead
 pub mod NameLaws
 pub mod Coordinate
 pub mod NumberLaws
 pub mod Line
 pub mod LineLaws
-pub mod FieldLaws
 pub mod Taken
-pub mod TakenLaws
 pub mod PlanLaws
 pub mod Entering
 pub mod CallLaws
@@ -17,5 +14,4 @@ pub mod Put
 pub mod PutLaws
 pub mod SheetParts
 pub mod Composing
-pub mod Refusing
 pub mod Filling

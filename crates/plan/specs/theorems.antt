@@ -1,11 +1,19 @@
--- What follows from the rules: numbers of answers, conditions of refusals, the demands, the known answers.
-pub mod Numbers
-pub mod Conditions
+-- What follows from the rules: laws, one file for each part, and the theorems that the demands cite.
+pub mod Text
+pub mod Tables
+pub mod OneMore
+pub mod Sites
+pub mod Entering
+pub mod Reading
 pub mod FirstLine
-pub mod HandedBack
 pub mod Longer
-pub mod SheetLaws
-pub mod OutputLaws
+pub mod Sheet
+pub mod ReadOff
+pub mod Plan
+pub mod Calls
+pub mod HandedBack
+pub mod Output
+pub mod OneOutput
 pub mod Rivals
 pub mod Limits
 pub mod Known

@@ -12,11 +12,13 @@ use crate::refusal::Outcome;
 use crate::refusal::Refusal;
 use placing::place::place_labels;
 ghost use mathlib.Core.Path.{_≡_};
+ghost use Rattle.placing.specs.rules.Choice.{cornerAt};
 ghost use Rattle.placing.specs.rules.Answer.{sideNumber};
-ghost use Rattle.placing.specs.rules.Corners.{cornerAt};
-ghost use Rattle.plan.specs.rules.Plan.{Valid};
-ghost use Rattle.plan.specs.rules.Calls.{enteredIn, placedIn, tableAfter, answerFor, sideAsked, cornerAsked, counted};
-ghost use Rattle.plan.specs.rules.Calls.{carriedAt, sideCarried, askSideNumber, cornerCarried, askCornerNumber};
+ghost use Rattle.plan.specs.rules.Refusal.{numberBy};
+ghost use Rattle.plan.specs.rules.Calls.{sideTests, cornerTests};
+ghost use Rattle.plan.specs.calls.Plan.{Valid};
+ghost use Rattle.plan.specs.calls.Answers.{enteredIn, placedIn, tableAfter, answerFor, sideAsked, cornerAsked, counted};
+ghost use Rattle.plan.specs.calls.Answers.{carriedAt, sideCarried, cornerCarried};
 ghost use Rattle.plan.specs.Demands.{EnterTold, PlaceTold, SideTold, CornerTold};
 
 // Enters one site at the end: tests 2, 3, 7, 4, 5.
@@ -59,7 +61,7 @@ pub fn side(plan: Plan) -> AskedSide
     requires { ⌜ Valid plan ⌝ }
     ensures answer { λ r. ⌜ r ≡ sideAsked plan ⌝ }
     ensures told { λ r. ⌜ SideTold plan r ⌝ }
-    ensures value { λ r. ⌜ sideCarried r ≡ carriedAt (askSideNumber plan) (sideNumber (answerFor plan .side)) ⌝ }
+    ensures value { λ r. ⌜ sideCarried r ≡ carriedAt (numberBy (sideTests (plan .placed))) (sideNumber (answerFor plan .side)) ⌝ }
 {
     if !plan.placed {
         return AskedSide::NoSide(Refusal::NotPlaced);
@@ -73,7 +75,8 @@ pub fn corner(plan: Plan, i: usize) -> AskedCorner
     requires { ⌜ Valid plan ⌝ }
     ensures answer { λ r. ⌜ r ≡ cornerAsked plan i ⌝ }
     ensures told { λ r. ⌜ CornerTold plan i r ⌝ }
-    ensures value { λ r. ⌜ cornerCarried r ≡ carriedAt (askCornerNumber plan i) (cornerAt (answerFor plan .corners) i) ⌝ }
+    ensures value { λ r. ⌜ cornerCarried r
+        ≡ carriedAt (numberBy (cornerTests (plan .placed) (plan .count) i)) (cornerAt (answerFor plan .corners) i) ⌝ }
 {
     if !plan.placed {
         return AskedCorner::NoCorner(Refusal::NotPlaced);

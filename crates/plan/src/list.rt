@@ -12,13 +12,12 @@ use crate::refusal::Refusal;
 ghost use mathlib.Core.Path.{_≡_};
 ghost use mathlib.Core.List.{[], _∷_};
 ghost use Prim.Native.Nat.{_≤_};
-ghost use lib.ListN.{length, drop};
-ghost use Rattle.plan.specs.rules.Text.{firstLine};
-ghost use Rattle.plan.specs.rules.List.{enteredFields, enteredLine};
-ghost use Rattle.plan.specs.rules.Plan.{sitesIn, Valid};
-ghost use Rattle.plan.specs.rules.Calls.{plannedOr, readFrom};
+ghost use lib.ListN.{length};
+ghost use Rattle.plan.specs.rules.Text.{fieldsOf};
+ghost use Rattle.plan.specs.calls.Plan.{unplacedPlan, sitesIn, Valid};
+ghost use Rattle.plan.specs.calls.Answers.{handed, readFrom};
 ghost use Rattle.plan.specs.Demands.{ReadTold};
-ghost use Rattle.plan.specs.code.Line.{lineEnd, lineRead, FieldEnd};
+ghost use Rattle.plan.specs.code.Line.{LineEnds, LineReads, FieldEnd, enteredFields};
 
 // Where a line ends: the place of its line feed, if it has one in time.
 pub(crate) enum LineEnd {
@@ -36,7 +35,7 @@ pub(crate) struct LineRead {
 // The end of the line that starts at `at`: a line feed behind at most the bytes of a line.
 fn line_end(text: &[u8], at: usize) -> LineEnd
     requires { ⌜ at ≤ length (now text) ⌝ }
-    ensures { λ r. ⌜ r ≡ lineEnd at (firstLine (drop at (now (text .entry)))) ⌝ }
+    ensures { λ r. ⌜ LineEnds (now (text .entry)) at r ⌝ }
 {
     for i in 0..TextLimits::LINE + 1 {
         if text.len() - at <= i {
@@ -67,7 +66,7 @@ fn field_end(line: &[u8], at: usize) -> usize
 // Enters three fields: tests 2, 3, 7, 4, 5.
 fn enter_fields(plan: Plan, name: &[u8], x: &[u8], y: &[u8]) -> Planned
     requires { ⌜ Valid plan ⌝ }
-    ensures answer { λ r. ⌜ r ≡ plannedOr plan (enteredFields (sitesIn plan)
+    ensures answer { λ r. ⌜ r ≡ handed unplacedPlan plan (enteredFields (sitesIn plan)
         (now (name .entry) ∷ now (x .entry) ∷ now (y .entry) ∷ [])) ⌝ }
     ensures valid { λ r. ⌜ Valid (r .plan) ⌝ }
 {
@@ -79,23 +78,23 @@ fn enter_fields(plan: Plan, name: &[u8], x: &[u8], y: &[u8]) -> Planned
 // Enters a line, without its line feed: test 1 for its fields, then theirs.
 fn enter_line(plan: Plan, line: &[u8]) -> Planned
     requires { ⌜ Valid plan ⌝ }
-    ensures answer { λ r. ⌜ r ≡ plannedOr plan (enteredLine (sitesIn plan) (now (line .entry))) ⌝ }
+    ensures answer { λ r. ⌜ r ≡ handed unplacedPlan plan (enteredFields (sitesIn plan) (fieldsOf (now (line .entry)))) ⌝ }
     ensures valid { λ r. ⌜ Valid (r .plan) ⌝ }
 {
     let n = line.len();
     let first = field_end(line, 0);
     if first == n {
-        return refuse(plan, Refusal::Line);
+        return refuse(plan, Refusal::BadLine);
     }
     let from_x = first + 1;
     let second = field_end(line, from_x);
     if second == n {
-        return refuse(plan, Refusal::Line);
+        return refuse(plan, Refusal::BadLine);
     }
     let from_y = second + 1;
     let third = field_end(line, from_y);
     if third != n {
-        return refuse(plan, Refusal::Line);
+        return refuse(plan, Refusal::BadLine);
     }
     enter_fields(plan, &line[..first], &line[from_x..second], &line[from_y..])
 }
@@ -103,11 +102,11 @@ fn enter_line(plan: Plan, line: &[u8]) -> Planned
 // Reads the line that starts at `at`: test 1 for its end, then those of entering it.
 fn read_line(plan: Plan, text: &[u8], at: usize) -> LineRead
     requires { ⌜ Valid plan × (at ≤ length (now text)) ⌝ }
-    ensures { λ r. ⌜ r ≡ lineRead plan at (firstLine (drop at (now (text .entry)))) ⌝ }
+    ensures { λ r. ⌜ LineReads plan (now (text .entry)) at r ⌝ }
 {
     let LineEnd::At(end) = line_end(text, at) else {
         return LineRead {
-            outcome: Outcome::Refused(Refusal::Line),
+            outcome: Outcome::Refused(Refusal::BadLine),
             plan,
             next: at,
         };

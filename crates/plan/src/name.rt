@@ -2,7 +2,8 @@
 use crate::put::put_bytes;
 ghost use mathlib.Core.Path.{_≡_};
 ghost use Prim.Native.Nat.{_≤_};
-ghost use Rattle.plan.specs.rules.Name.{nameByte, isName, sameBytes, bytesOf, mostNameBytes};
+ghost use Rattle.plan.specs.rules.Text.{isNameByte, isName, sameBytes, mostNameBytes};
+ghost use Rattle.plan.specs.calls.Plan.{nameHeld};
 ghost use Rattle.plan.specs.code.NameRead.{nameRead, noName, noRead};
 
 // The bytes of a name from the front, zeros past them.
@@ -45,7 +46,7 @@ impl NameRead {
 }
 
 fn is_name_byte(b: u8) -> bool
-    ensures { λ r. ⌜ r ≡ nameByte b ⌝ }
+    ensures { λ r. ⌜ r ≡ isNameByte b ⌝ }
 {
     if b == b'-' {
         return true;
@@ -98,7 +99,7 @@ pub(crate) fn name_from(text: &[u8]) -> NameRead
 // Whether two names are the same.
 pub(crate) fn same_name(a: Name, b: Name) -> bool
     requires { ⌜ (a .len ≤ mostNameBytes) × (b .len ≤ mostNameBytes) ⌝ }
-    ensures { λ r. ⌜ r ≡ sameBytes (bytesOf a) (bytesOf b) ⌝ }
+    ensures { λ r. ⌜ r ≡ sameBytes (nameHeld a) (nameHeld b) ⌝ }
 {
     let n = a.len;
     if n != b.len {

@@ -7,7 +7,7 @@ ghost use mathlib.Core.Option.{some};
 ghost use mathlib.Core.List.{[], _∷_};
 ghost use Prim.Native.Nat.{_≤_};
 ghost use Rattle.placing.specs.rules.Units.{greatestCoordinate};
-ghost use Rattle.plan.specs.rules.Number.{coordinateIn, digitsAfter, asCoordinate};
+ghost use Rattle.plan.specs.rules.Text.{numberIn, digitsAfter};
 ghost use Rattle.plan.specs.code.Coordinate.{coordinateRead, placeRead};
 
 // The digit 0; the others follow it.
@@ -27,7 +27,7 @@ pub(crate) struct PlaceRead {
 
 // A number as a coordinate.
 pub(crate) fn coordinate_at(n: u64) -> Coordinate
-    ensures { λ r. ⌜ r ≡ coordinateRead (asCoordinate (some n)) ⌝ }
+    ensures { λ r. ⌜ r ≡ coordinateRead (some n) ⌝ }
 {
     if n > Limits::COORDINATE as u64 {
         return Coordinate::Nowhere;
@@ -61,7 +61,7 @@ pub(crate) fn place_at(x: Coordinate, y: Coordinate) -> PlaceRead
 // A number with one digit more, where it is a digit and the number stays in range.
 fn with_digit(value: u32, b: u8) -> Coordinate
     requires { ⌜ value ≤ greatestCoordinate ⌝ }
-    ensures { λ r. ⌜ r ≡ coordinateRead (asCoordinate (digitsAfter value (b ∷ []))) ⌝ }
+    ensures { λ r. ⌜ r ≡ coordinateRead (digitsAfter value (b ∷ [])) ⌝ }
 {
     if b < b'0' {
         return Coordinate::Nowhere;
@@ -75,7 +75,7 @@ fn with_digit(value: u32, b: u8) -> Coordinate
 
 // The number that the digits of a text write, up to the greatest coordinate.
 fn digits_from(text: &[u8]) -> Coordinate
-    ensures { λ r. ⌜ r ≡ coordinateRead (asCoordinate (digitsAfter 0 (now (text .entry)))) ⌝ }
+    ensures { λ r. ⌜ r ≡ coordinateRead (digitsAfter 0 (now (text .entry))) ⌝ }
 {
     let mut value = 0u32;
     for i in 0..text.len() {
@@ -89,7 +89,7 @@ fn digits_from(text: &[u8]) -> Coordinate
 
 // The coordinate that a text writes, in decimal digits with no leading zero.
 pub(crate) fn coordinate_from(text: &[u8]) -> Coordinate
-    ensures { λ r. ⌜ r ≡ coordinateRead (coordinateIn (now (text .entry))) ⌝ }
+    ensures { λ r. ⌜ r ≡ coordinateRead (numberIn (now (text .entry))) ⌝ }
 {
     if text.len() == 0 {
         return Coordinate::Nowhere;

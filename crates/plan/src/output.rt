@@ -13,18 +13,20 @@ use crate::sheet::compose;
 ghost use mathlib.Core.Path.{_≡_};
 ghost use Prim.Native.Nat.{_≤_};
 ghost use lib.ListN.{length, take};
-ghost use Rattle.plan.specs.rules.List.{readList};
-ghost use Rattle.plan.specs.rules.Plan.{Valid};
+ghost use Rattle.plan.specs.rules.Refusal.{numberOf};
+ghost use Rattle.plan.specs.rules.Sheet.{refusalLine};
 ghost use Rattle.plan.specs.rules.Calls.{filledWith};
-ghost use Rattle.plan.specs.rules.Output.{refusalLine, listPlaced, outputOf};
+ghost use Rattle.plan.specs.deciding.Output.{outputOf};
+ghost use Rattle.plan.specs.calls.Plan.{Valid};
+ghost use Rattle.plan.specs.calls.Answers.{listPlaced};
+ghost use Rattle.plan.specs.calls.Lengths.{longestRefusalLine};
 ghost use Rattle.plan.specs.code.Put.{Put};
-ghost use Rattle.plan.specs.code.Refusing.{longestRefusalLine};
 ghost use Rattle.plan.specs.Demands.{ListTold, Answered};
 
 // The line of a refusal: the word refused, a tab, the number and a line feed.
 fn put_refusal(out: &mut [u8], why: Refusal) -> usize
     requires { ⌜ longestRefusalLine ≤ length (now out) ⌝ }
-    ensures { λ r. ⌜ Put (now (out .entry)) 0 (refusalLine why) r (now (out .exit)) ⌝ }
+    ensures { λ r. ⌜ Put (now (out .entry)) 0 (refusalLine (numberOf why)) r (now (out .exit)) ⌝ }
 {
     let number = number_of(why);
     let word = put_bytes(out, 0, b"refused\t", 8);
@@ -34,7 +36,7 @@ fn put_refusal(out: &mut [u8], why: Refusal) -> usize
 
 // The plan of a list, placed; where the list is refused or has no sites, an empty plan. It lends placing a work table of its own.
 pub fn place_list(text: &[u8]) -> Planned
-    ensures answer { λ r. ⌜ r ≡ listPlaced (readList (now (text .entry))) ⌝ }
+    ensures answer { λ r. ⌜ r ≡ listPlaced (now (text .entry)) ⌝ }
     ensures valid { λ r. ⌜ Valid (r .plan) ⌝ }
     ensures told { λ r. ⌜ ListTold (now (text .entry)) r ⌝ }
 {

@@ -12,14 +12,16 @@ use placing::units::Side;
 use placing::units::Units;
 ghost use mathlib.Core.Path.{_≡_};
 ghost use Prim.Native.Nat.{_≤_};
-ghost use Rattle.placing.specs.rules.Units.{samePlace};
-ghost use Rattle.plan.specs.rules.Name.{bytesOf, mostNameBytes};
-ghost use Rattle.plan.specs.rules.Plan.{sitesIn, Valid};
-ghost use Rattle.plan.specs.rules.Calls.{started, plannedOr};
+ghost use Rattle.placing.specs.rules.Units.{mostSites};
+ghost use Rattle.placing.specs.deciding.Tests.{samePlace};
+ghost use Rattle.plan.specs.rules.Refusal.{firstRefusal};
+ghost use Rattle.plan.specs.rules.Text.{mostNameBytes};
+ghost use Rattle.plan.specs.rules.List.{entered};
+ghost use Rattle.plan.specs.calls.Plan.{unplacedPlan, nameHeld, sitesIn, Valid};
+ghost use Rattle.plan.specs.calls.Answers.{started, handed};
 ghost use Rattle.plan.specs.code.PlanLaws.{unplacedOf, placedOf};
 ghost use Rattle.plan.specs.code.Taken.{ShortNames, namesTaken, placesTaken};
-ghost use Rattle.plan.specs.code.Entering.{NameFits, PlaceFits, enteredRead, firstFailed};
-ghost use Rattle.placing.specs.rules.Units.{mostSites};
+ghost use Rattle.plan.specs.code.Entering.{NameFits, PlaceFits, wantedRead, outcomeOf, rows};
 
 // Slots past the count hold nothing: a name of no bytes, the place 0, 0 and corner 0. While a plan is not placed, its side is
 // free and its corners are 0.
@@ -114,7 +116,7 @@ pub(crate) fn refuse(plan: Plan, why: Refusal) -> Planned
 // Whether one of the first `n` names is this one.
 fn name_taken(names: [Name; Limits::SITES], n: usize, name: Name) -> bool
     requires { ⌜ (n ≤ mostSites) × ShortNames n names × (name .len ≤ mostNameBytes) ⌝ }
-    ensures { λ r. ⌜ r ≡ namesTaken n names (bytesOf name) ⌝ }
+    ensures { λ r. ⌜ r ≡ namesTaken n names (nameHeld name) ⌝ }
 {
     for i in 0..n {
         let other = names[i];
@@ -151,13 +153,13 @@ fn place_taken(places: [Place; Limits::SITES], n: usize, place: Place) -> bool
 
 // The order of document 01's tests, 2, 3, 7, 4, 5, over which of them fail.
 fn first_failed(unnamed: bool, outside: bool, full: bool, named: bool, placed: bool) -> Outcome
-    ensures { λ r. ⌜ r ≡ firstFailed unnamed outside full named placed ⌝ }
+    ensures { λ r. ⌜ r ≡ outcomeOf (firstRefusal (rows unnamed outside full named placed)) ⌝ }
 {
     if unnamed {
-        return Outcome::Refused(Refusal::Name);
+        return Outcome::Refused(Refusal::BadName);
     }
     if outside {
-        return Outcome::Refused(Refusal::Coordinate);
+        return Outcome::Refused(Refusal::BadCoordinate);
     }
     if full {
         return Outcome::Refused(Refusal::Full);
@@ -174,7 +176,7 @@ fn first_failed(unnamed: bool, outside: bool, full: bool, named: bool, placed: b
 // The plan with one site more, whose name and place were read. The plan is not placed afterwards.
 pub(crate) fn enter_read(plan: Plan, name: NameRead, place: PlaceRead) -> Planned
     requires { ⌜ Valid plan × NameFits name × PlaceFits place ⌝ }
-    ensures answer { λ r. ⌜ r ≡ plannedOr plan (enteredRead (sitesIn plan) name place) ⌝ }
+    ensures answer { λ r. ⌜ r ≡ handed unplacedPlan plan (entered (sitesIn plan) (wantedRead name place)) ⌝ }
     ensures valid { λ r. ⌜ Valid (r .plan) ⌝ }
 {
     let n = plan.count;

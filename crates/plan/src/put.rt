@@ -4,8 +4,8 @@ use crate::number::ZERO;
 ghost use Prim.Native.Nat.{_+_, _≤_, _<_};
 ghost use mathlib.Core.List.{[], _∷_};
 ghost use lib.ListN.{length, take};
-ghost use Rattle.plan.specs.rules.Number.{decimal, sevenDigits};
-ghost use Rattle.plan.specs.rules.Name.{bytesOf, mostNameBytes};
+ghost use Rattle.plan.specs.rules.Text.{decimal, mostNameBytes};
+ghost use Rattle.plan.specs.calls.Plan.{nameHeld};
 ghost use Rattle.plan.specs.code.Put.{Put};
 
 // One byte.
@@ -31,7 +31,7 @@ pub(crate) fn put_bytes(out: &mut [u8], at: usize, text: &[u8], n: usize) -> usi
 // The bytes of a name.
 pub(crate) fn put_name(out: &mut [u8], at: usize, name: Name) -> usize
     requires { ⌜ (name .len ≤ mostNameBytes) × (at + name .len ≤ length (now out)) ⌝ }
-    ensures { λ r. ⌜ Put (now (out .entry)) at (bytesOf name) r (now (out .exit)) ⌝ }
+    ensures { λ r. ⌜ Put (now (out .entry)) at (nameHeld name) r (now (out .exit)) ⌝ }
 {
     let n = name.len;
     let bytes = name.bytes;
@@ -40,7 +40,7 @@ pub(crate) fn put_name(out: &mut [u8], at: usize, name: Name) -> usize
 
 // A number in decimal: the digits of its tenth part, then its last digit.
 pub(crate) fn put_decimal(out: &mut [u8], at: usize, n: u32) -> usize
-    requires { ⌜ (n < sevenDigits) × (at + length (decimal n) ≤ length (now out)) ⌝ }
+    requires { ⌜ at + length (decimal n) ≤ length (now out) ⌝ }
     ensures { λ r. ⌜ Put (now (out .entry)) at (decimal n) r (now (out .exit)) ⌝ }
 {
     if n < 10 {

@@ -3,9 +3,9 @@ ghost use mathlib.Core.Path.{_≡_};
 ghost use Rattle.plan.specs.rules.Refusal.{numberOf};
 
 pub enum Refusal {
-    Line,
-    Name,
-    Coordinate,
+    BadLine,
+    BadName,
+    BadCoordinate,
     NameTaken,
     PlaceTaken,
     NoSuchSite,
@@ -27,9 +27,9 @@ pub fn number_of(refusal: Refusal) -> u8
     ensures { λ r. ⌜ r ≡ numberOf refusal ⌝ }
 {
     match refusal {
-        Refusal::Line => 1,
-        Refusal::Name => 2,
-        Refusal::Coordinate => 3,
+        Refusal::BadLine => 1,
+        Refusal::BadName => 2,
+        Refusal::BadCoordinate => 3,
         Refusal::NameTaken => 4,
         Refusal::PlaceTaken => 5,
         Refusal::NoSuchSite => 6,

@@ -16,14 +16,17 @@ ghost use Prim.Native.Nat.{_+_, _≤_, _<_};
 ghost use lib.ListN.{length};
 ghost use Rattle.placing.specs.rules.Units.{OnPlan};
 ghost use Rattle.placing.specs.rules.Corner.{Corner};
-ghost use Rattle.plan.specs.rules.Sheet.{sheetOf, longestSideLine, longestSiteLine, longestSheet};
-ghost use Rattle.plan.specs.rules.Plan.{sitesIn, Valid};
-ghost use Rattle.plan.specs.rules.Calls.{written, bufferAfter, writtenLength, writeNumber, carriedAt};
+ghost use Rattle.plan.specs.rules.Refusal.{numberBy};
+ghost use Rattle.plan.specs.rules.Text.{mostNameBytes};
+ghost use Rattle.plan.specs.deciding.Output.{sheetOf};
+ghost use Rattle.plan.specs.rules.Calls.{writeTests};
+ghost use Rattle.plan.specs.calls.Plan.{sitesIn, Valid};
+ghost use Rattle.plan.specs.calls.Answers.{writtenIn, bufferAfter, writtenLength, carriedAt};
+ghost use Rattle.plan.specs.calls.Lengths.{longestSideLine, longestSiteLine, longestSheet};
 ghost use Rattle.plan.specs.code.Taken.{siteOf};
 ghost use Rattle.plan.specs.code.Put.{Put};
 ghost use Rattle.plan.specs.code.SheetParts.{sideLineEnded, siteLineEnded, lineHeld, SideSmall};
 ghost use Rattle.plan.specs.Demands.{SheetWritten, WriteTold};
-ghost use Rattle.plan.specs.rules.Name.{mostNameBytes};
 
 // The first line: the word side, a tab and the side.
 fn put_side(out: &mut [u8], side: Side) -> usize
@@ -80,11 +83,12 @@ pub(crate) fn compose(plan: Plan, out: &mut [u8]) -> usize
 // Writes the sheet into the buffer: tests 9, 10.
 pub fn write(plan: Plan, buffer: &mut [u8]) -> Written
     requires { ⌜ Valid plan ⌝ }
-    ensures answer { λ r. ⌜ r ≡ written plan (now (buffer .entry)) ⌝ }
+    ensures answer { λ r. ⌜ r ≡ writtenIn plan (now (buffer .entry)) ⌝ }
     ensures buffer { λ r. ⌜ now (buffer .exit) ≡ bufferAfter plan (now (buffer .entry)) ⌝ }
     ensures sheet { λ r. ⌜ SheetWritten (sitesIn plan) r (now (buffer .exit)) ⌝ }
     ensures told { λ r. ⌜ WriteTold plan (now (buffer .entry)) r (now (buffer .exit)) ⌝ }
-    ensures value { λ r. ⌜ writtenLength r ≡ carriedAt (writeNumber plan (now (buffer .entry))) (length (sheetOf (sitesIn plan))) ⌝ }
+    ensures value { λ r. ⌜ writtenLength r
+        ≡ carriedAt (numberBy (writeTests (plan .placed) (sheetOf (sitesIn plan)) (now (buffer .entry)))) (length (sheetOf (sitesIn plan))) ⌝ }
 {
     if !plan.placed {
         return Written::NotWritten(Refusal::NotPlaced);

@@ -2,7 +2,8 @@
 -- Assumes nothing.
 use mathlib.Core.Path.{_≡_, refl, sym, _∙_, subst}
 use mathlib.Core.Bool.{Bool, true, false}
-use mathlib.Core.List.{List, [], _∷_}
+use mathlib.Core.List.{List}
+use mathlib.Core.Option.{some, none}
 use Prim.Native.Nat.{ℕ, _≤_, _<_}
 use native.Mathlib.Omega.{arith}
 use borrow.Author.Tests.{ltb-true}
@@ -10,17 +11,18 @@ use lib.Dec.{ltb}
 use lib.ListN.{length, take, drop}
 use lib.Seq.{take-append-seam}
 use Rattle.plan.specs.declared.refusal.Refusal.{Refusal}
-use Rattle.plan.specs.declared.refusal.Refusal.the-variants.{NoSites, ShortBuffer}
-use Rattle.plan.specs.rules.Refusal.{numberOf, number-small}
-use Rattle.plan.specs.rules.Site.{Site}
-use Rattle.plan.specs.rules.Enter.{Sites, accepted, refused}
-use Rattle.plan.specs.rules.List.{readList, read-listed}
-use Rattle.plan.specs.rules.Sheet.{sheetOf, shortestSheet, sheet-shortest}
-use Rattle.plan.specs.rules.Calls.{filledWith}
-use Rattle.plan.specs.rules.Output.{outputOf, output-sheet}
-use Rattle.plan.specs.Demands.{Accepts, ListRefused, at-line, SheetFor}
-use Rattle.plan.specs.theorems.Conditions.{read-condition}
-use Rattle.plan.specs.theorems.OutputLaws.{none-refused, sheet-for}
+use Rattle.plan.specs.declared.refusal.Refusal.the-variants.{ShortBuffer}
+use Rattle.plan.specs.rules.Refusal.{numberOf, Result, accepted, refused, unless}
+use Rattle.plan.specs.rules.List.{Site}
+use Rattle.plan.specs.deciding.Output.{sheetOf, outputOf}
+use Rattle.plan.specs.rules.Calls.{lengthGiven, filledWith, toPlace}
+use Rattle.plan.specs.deciding.Reading.{readList}
+use Rattle.plan.specs.Demands.{Accepts, ListRefused, SheetFor}
+use Rattle.plan.specs.theorems.Tables.{number-small}
+use Rattle.plan.specs.theorems.Reading.{reads-are, read-listed}
+use Rattle.plan.specs.theorems.Sheet.{sheet-shortest, output-sheet}
+use Rattle.plan.specs.calls.Lengths.{shortestSheet}
+use Rattle.plan.specs.theorems.Output.{sheet-for, ToPlace, not-placed, is-placed, text-to-place}
 
 -- The number that the call gives, and the buffer afterwards.
 pub record Called : Type 0 where
@@ -31,21 +33,19 @@ pub record Called : Type 0 where
 abbrev pub refusal : Refusal → List ℕ → Called
 refusal why buffer = record { number = numberOf why; buffer = buffer }
 
--- A sheet: its length, with the sheet at the front of the buffer and the bytes after it as they came; 10 where the buffer is shorter.
-abbrev pub sheetIn : (short : Bool) → List ℕ → List ℕ → Called
-sheetIn true sheet buffer = refusal ShortBuffer buffer
-sheetIn false sheet buffer = record { number = length sheet; buffer = filledWith sheet buffer }
+-- What writing a sheet comes to: its length, with the sheet at the front of the buffer and the bytes after it as they came; or a refusal.
+abbrev pub sheetIn : Result ℕ → List ℕ → List ℕ → Called
+sheetIn (accepted n) sheet buffer = record { number = n; buffer = filledWith sheet buffer }
+sheetIn (refused why) sheet buffer = refusal why buffer
 
--- For what the list is read as: the refusal, 8 for no sites, or the sheet of the sites.
-abbrev pub calledFor : Sites → List ℕ → Called
+-- For what is to be placed of a list: the refusal, or the sheet of its sites.
+abbrev pub calledFor : Result (List Site) → List ℕ → Called
 calledFor (refused why) buffer = refusal why buffer
-calledFor (accepted []) buffer = refusal NoSites buffer
-calledFor (accepted (site ∷ sites)) buffer =
-    sheetIn (ltb (length buffer) (length (sheetOf (site ∷ sites)))) (sheetOf (site ∷ sites)) buffer
+calledFor (accepted sites) buffer = sheetIn (lengthGiven true (sheetOf sites) buffer) (sheetOf sites) buffer
 
 -- For the bytes of a list.
 abbrev pub called : List ℕ → List ℕ → Called
-called list buffer = calledFor (readList list) buffer
+called list buffer = calledFor (toPlace (readList list)) buffer
 
 -- Why a list has no sheet in this buffer, with the number: it is refused, or its sheet is longer than the buffer.
 pub data CallRefused (list buffer : List ℕ) : ℕ → Type 0 where
@@ -66,27 +66,30 @@ refusal-told list buffer why reason =
     record { sheet = λ long. absurd (omega arith); same-output = λ long. absurd (omega arith); refused = λ short. (reason, refl) }
 
 -- No sheet is that short.
-sheet-told : (list buffer : List ℕ) (sites : List Site) → Accepts list sites → (short : Bool)
-    → ltb (length buffer) (length (sheetOf sites)) ≡ short
-    → Told list buffer (sheetIn short (sheetOf sites) buffer .number) (sheetIn short (sheetOf sites) buffer .buffer)
-sheet-told list buffer sites accepts true is =
-    refusal-told list buffer ShortBuffer (short-buffer sites accepts (ltb-true (length buffer) (length (sheetOf sites)) is))
-sheet-told list buffer sites accepts false is =
-    let front = take-append-seam (sheetOf sites) (drop (length (sheetOf sites)) buffer) in
-    let long = sheet-shortest sites (read-listed list sites (accepts .read)) (accepts .some-sites) in
-    record {
-      sheet = λ told. subst (SheetFor list) (sym front) (sheet-for list sites accepts);
-      same-output = λ told. front ∙ sym (output-sheet list sites (accepts .read) (accepts .some-sites));
-      refused = λ short. absurd (omega arith);
-    }
+sheet-told : (list buffer : List ℕ) (sites : List Site) → Accepts list sites
+    → Told list buffer (calledFor (accepted sites) buffer .number) (calledFor (accepted sites) buffer .buffer)
+sheet-told list buffer sites accepts = by-room (ltb (length buffer) (length (sheetOf sites))) refl
+  where
+    comes : Bool → Called
+    comes short = sheetIn (unless (elim short [ true ↦ some ShortBuffer | false ↦ none ]) (length (sheetOf sites))) (sheetOf sites) buffer
+
+    by-room : (short : Bool) → ltb (length buffer) (length (sheetOf sites)) ≡ short
+        → Told list buffer (comes short .number) (comes short .buffer)
+    by-room true is =
+        refusal-told list buffer ShortBuffer (short-buffer sites accepts (ltb-true (length buffer) (length (sheetOf sites)) is))
+    by-room false is =
+        let front = take-append-seam (sheetOf sites) (drop (length (sheetOf sites)) buffer) in
+        let long = sheet-shortest sites (read-listed list sites (reads-are (accepts .read))) (accepts .some-sites) in
+        record {
+          sheet = λ told. subst (SheetFor list) (sym front) (sheet-for list sites accepts);
+          same-output = λ told. front ∙ sym (output-sheet list sites (reads-are (accepts .read)) (accepts .some-sites));
+          refused = λ short. absurd (omega arith);
+        }
 
 -- So the number tells which it is.
 pub call-told : (list buffer : List ℕ) → Told list buffer (called list buffer .number) (called list buffer .buffer)
-call-told list buffer = by-sites (readList list) refl
+call-told list buffer = by-sites (text-to-place list)
   where
-    by-sites : (sites : Sites) → readList list ≡ sites → Told list buffer (calledFor sites buffer .number) (calledFor sites buffer .buffer)
-    by-sites (refused why) read = refusal-told list buffer why (refused-list (at-line (read-condition list why read)))
-    by-sites (accepted []) read = refusal-told list buffer NoSites (refused-list (none-refused list read))
-    by-sites (accepted (site ∷ sites)) read =
-        sheet-told list buffer (site ∷ sites) (record { read = read; some-sites = omega arith })
-        (ltb (length buffer) (length (sheetOf (site ∷ sites)))) refl
+    by-sites : {sites : Result (List Site)} → ToPlace list sites → Told list buffer (calledFor sites buffer .number) (calledFor sites buffer .buffer)
+    by-sites (not-placed {why} reason) = refusal-told list buffer why (refused-list reason)
+    by-sites (is-placed {sites} accepts) = sheet-told list buffer sites accepts

@@ -1,26 +1,24 @@
 -- What placing a list and writing its plan make of the list and a buffer: the call.
 -- Assumes nothing.
 use mathlib.Core.Path.{_≡_, refl, sym, ap, _∙_, subst}
-use mathlib.Core.Bool.{Bool, true, false}
-use mathlib.Core.List.{List, [], _∷_}
+use mathlib.Core.Bool.{true}
+use mathlib.Core.List.{List}
 use Prim.Native.Nat.{ℕ}
 use native.Mathlib.Omega.{arith}
-use lib.Dec.{ltb}
-use lib.ListN.{length}
 use Rattle.plan.specs.declared.plan.Planned.{Planned}
 use Rattle.plan.specs.declared.plan.Written.{Written}
 use Rattle.plan.specs.declared.plan.Written.the-variants.{Bytes, NotWritten}
 use Rattle.plan.specs.declared.refusal.Outcome.{Outcome}
 use Rattle.plan.specs.declared.refusal.Outcome.the-variants.{Done, Refused}
 use Rattle.plan.specs.declared.refusal.Refusal.{Refusal}
-use Rattle.plan.specs.declared.refusal.Refusal.the-variants.{NoSites}
-use Rattle.plan.specs.rules.Refusal.{numberOf}
-use Rattle.plan.specs.rules.Enter.{Sites, accepted, refused}
-use Rattle.plan.specs.rules.List.{readList}
-use Rattle.plan.specs.rules.Sheet.{sheetOf}
-use Rattle.plan.specs.rules.Plan.{placed, sites-placed}
-use Rattle.plan.specs.rules.Calls.{written, writeWhere, bufferAfter, filledWhere}
-use Rattle.plan.specs.rules.Output.{listPlaced}
+use Rattle.plan.specs.rules.Refusal.{numberOf, Result, accepted, refused}
+use Rattle.plan.specs.rules.List.{Site}
+use Rattle.plan.specs.deciding.Output.{sheetOf}
+use Rattle.plan.specs.rules.Calls.{lengthGiven, filledWith, bytesAfter, toPlace}
+use Rattle.plan.specs.deciding.Reading.{readList}
+use Rattle.plan.specs.calls.Plan.{placedPlan}
+use Rattle.plan.specs.calls.Answers.{started, handed, writtenAnswer, writtenIn, bufferAfter, listPlaced}
+use Rattle.plan.specs.theorems.Plan.{sites-placed}
 use Rattle.sheet_call.specs.Call.{Called, Told, refusal, sheetIn, calledFor, called, call-told}
 
 -- What the contract says of a number and of a buffer afterwards.
@@ -45,13 +43,12 @@ abbrev outcomeOf : Planned → Outcome
 outcomeOf p = p .outcome
 
 -- The list is refused.
-pub list-refuses : (list buffer : List ℕ) {done : Planned} {why : Refusal} → done ≡ listPlaced (readList list)
-    → done .outcome ≡ Refused why → called list buffer ≡ refusal why buffer
-list-refuses list buffer {done} {why} done-is is = by-sites (readList list) (ap outcomeOf (sym done-is) ∙ is)
+pub list-refuses : (list buffer : List ℕ) {done : Planned} {why : Refusal} → done ≡ listPlaced list → done .outcome ≡ Refused why
+    → called list buffer ≡ refusal why buffer
+list-refuses list buffer {done} {why} done-is is = by-sites (toPlace (readList list)) (ap outcomeOf (sym done-is) ∙ is)
   where
-    by-sites : (sites : Sites) → listPlaced sites .outcome ≡ Refused why → calledFor sites buffer ≡ refusal why buffer
-    by-sites (accepted []) is = let same : NoSites ≡ why = cc in ap (λ (w : Refusal). refusal w buffer) same
-    by-sites (accepted (site ∷ sites)) is = let z : _≡_ {A = ℕ} 0 1 = cc in absurd (omega arith)
+    by-sites : (sites : Result (List Site)) → handed placedPlan started sites .outcome ≡ Refused why → calledFor sites buffer ≡ refusal why buffer
+    by-sites (accepted sites) is = let z : _≡_ {A = ℕ} 0 1 = cc in absurd (omega arith)
     by-sites (refused other) is = let same : other ≡ why = cc in ap (λ (w : Refusal). refusal w buffer) same
 
 -- What writing answers and leaves in the buffer, as the call gives it.
@@ -60,22 +57,20 @@ asCalled (Bytes n) after = record { number = n; buffer = after }
 asCalled (NotWritten why) after = refusal why after
 
 -- The list is placed, and the plan is written.
-pub write-calls : (list buffer : List ℕ) {done : Planned} {answer : Written} {after : List ℕ} → done ≡ listPlaced (readList list)
-    → done .outcome ≡ Done → answer ≡ written (done .plan) buffer → after ≡ bufferAfter (done .plan) buffer
+pub write-calls : (list buffer : List ℕ) {done : Planned} {answer : Written} {after : List ℕ} → done ≡ listPlaced list
+    → done .outcome ≡ Done → answer ≡ writtenIn (done .plan) buffer → after ≡ bufferAfter (done .plan) buffer
     → called list buffer ≡ asCalled answer after
-unfolding placed
+unfolding placedPlan
 write-calls list buffer done-is is answered left =
-    by-sites (readList list) (ap outcomeOf (sym done-is) ∙ is) ∙ sym (rw (answered, left, done-is))
+    by-sites (toPlace (readList list)) (ap outcomeOf (sym done-is) ∙ is) ∙ sym (rw (answered, left, done-is))
   where
-    by-room : (short : Bool) (sheet : List ℕ)
-        → sheetIn short sheet buffer ≡ asCalled (writeWhere true short sheet) (filledWhere (writeWhere true short sheet) sheet buffer)
-    by-room true sheet = refl
-    by-room false sheet = refl
+    by-room : (comes : Result ℕ) (sheet : List ℕ)
+        → sheetIn comes sheet buffer ≡ asCalled (writtenAnswer comes) (bytesAfter comes (filledWith sheet buffer) buffer)
+    by-room (accepted n) sheet = refl
+    by-room (refused why) sheet = refl
 
-    by-sites : (sites : Sites) → listPlaced sites .outcome ≡ Done
-        → calledFor sites buffer ≡ asCalled (written (listPlaced sites .plan) buffer) (bufferAfter (listPlaced sites .plan) buffer)
-    by-sites (accepted []) is = let z : _≡_ {A = ℕ} 0 1 = cc in absurd (omega arith)
-    by-sites (accepted (site ∷ sites)) is =
-        let sheet = sheetOf (site ∷ sites) in
-        rw (sites-placed (site ∷ sites)) (by-room (ltb (length buffer) (length sheet)) sheet)
+    by-sites : (sites : Result (List Site)) → handed placedPlan started sites .outcome ≡ Done
+        → calledFor sites buffer
+        ≡ asCalled (writtenIn (handed placedPlan started sites .plan) buffer) (bufferAfter (handed placedPlan started sites .plan) buffer)
+    by-sites (accepted sites) is = rw (sites-placed sites) (by-room (lengthGiven true (sheetOf sites) buffer) (sheetOf sites))
     by-sites (refused other) is = let z : _≡_ {A = ℕ} 0 1 = cc in absurd (omega arith)

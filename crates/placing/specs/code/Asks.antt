@@ -7,10 +7,9 @@ use Prim.Native.Nat.{ℕ, _≤_, _<_}
 use lib.ListN.{length}
 use Rattle.placing.specs.declared.units.HalfUnits.{HalfUnits}
 use Rattle.placing.specs.declared.crowding.Crowding.{Crowding}
-use Rattle.placing.specs.rules.Units.{Judged}
 use Rattle.placing.specs.rules.Corner.{Corner}
-use Rattle.placing.specs.rules.Corners.{cornerAt}
-use Rattle.placing.specs.code.Sites.{Held, HasPlace, sitesOf}
+use Rattle.placing.specs.rules.Choice.{cornerAt}
+use Rattle.placing.specs.code.Sites.{Held, HasPlace, sitesOf, Judged}
 use Rattle.placing.specs.code.Crowding.{CrowdingIs}
 use Rattle.placing.specs.search.Rows.{rowOf}
 use Rattle.placing.specs.search.State.{Underway, Closed, Walked}

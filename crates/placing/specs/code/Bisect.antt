@@ -3,7 +3,6 @@
 use mathlib.Core.Path.{_≡_, refl, sym, ap, subst, _∙_}
 use mathlib.Core.Bool.{Bool, true, false}
 use mathlib.Core.List.{List, _∷_, _++_}
-use mathlib.Core.Logic.{_≢_}
 use Prim.Native.Nat.{ℕ, zero, suc, _+_, _-_, _≤_, _<_, zero-le, suc-le-suc}
 use native.Mathlib.Nat.{le-of-suc-le-suc}
 use native.Mathlib.Decide.{ℕ-discrete, decLe}
@@ -18,25 +17,27 @@ use Rattle.placing.specs.declared.units.Place.{Place}
 use Rattle.placing.specs.declared.units.Side.{Side}
 use Rattle.placing.specs.declared.units.Side.the-variants.{Number, Free}
 use Rattle.placing.specs.rules.Units.{mostSites, Distinct, freeSide}
-use Rattle.placing.specs.rules.Corners.{cornerAt, Before, lower, later}
-use Rattle.placing.specs.rules.Choice.{Good, First, good-smaller, good-one-exists}
-use Rattle.placing.specs.rules.Answer.{Answer, answerOf, firstGood, firstGood-some, firstGood-none, answer-found, answer-free}
+use Rattle.placing.specs.rules.Choice.{cornerAt, Before, lower, later, Good, First}
+use Rattle.placing.specs.rules.Answer.{Answer}
+use Rattle.placing.specs.calls.Placing.{placedAs}
+use Rattle.placing.specs.deciding.Answer.{answerOf, firstGood}
+use Rattle.placing.specs.theorems.Choice.{good-smaller, good-one-exists}
+use Rattle.placing.specs.theorems.Answer.{firstGood-some, firstGood-none, answer-found, answer-free}
 use Rattle.placing.specs.code.Sites.{Held, sitesOf}
 use Rattle.placing.specs.code.Crowding.{judgedFree, NoneFrom, CrowdingIs}
 use Rattle.placing.specs.code.Chosen.{whereYes, choiceIn}
-use Rattle.placing.specs.rules.Placing.{placedAs}
 
 -- No list of corners comes before the one that has corner 1 everywhere.
 ones-first : (n : ℕ) (es : List ℕ) → ((i : ℕ) → i < n → 1 ≤ cornerAt es i) → Before es (replicate n 1) → ⊥
-ones-first (suc n) (e ∷ es) corner (lower h) = omega (arith, corner 0 (suc-le-suc zero-le))
-ones-first (suc n) (e ∷ es) corner (later b) = ones-first n es (λ i h. corner (suc i) (suc-le-suc h)) b
+ones-first (suc n) (e ∷ es) corner (lower less) = omega (arith, corner 0 (suc-le-suc zero-le))
+ones-first (suc n) (e ∷ es) corner (later b) = ones-first n es (λ i listed. corner (suc i) (suc-le-suc listed)) b
 
 -- At side 1 every choice is good, and corner 1 everywhere is the first.
 pub first-at-one : {ps : List Place} → Distinct ps → First 1 ps (replicate (length ps) 1)
 first-at-one {ps} distinct =
     record {
       good = good-one-exists distinct;
-      none-before = λ es good. ones-first (length ps) es (λ i h. good .corners .corner i h .least);
+      none-before = λ es good. ones-first (length ps) es (λ i listed. good .corners .corner i listed .least);
     }
 
 -- The side to try next between two: below the upper one, and above the lower one unless they are one apart.
@@ -67,10 +68,11 @@ pub record Narrowed (ps : List Place) (n top : ℕ) (before after : Between) : T
   pub between-is : BetweenIs ps n top after
   pub less : after .high .0 - after .low .0 < before .high .0 - before .low .0
 
+-- The first n of k ones are n ones.
 take-replicate : (n k : ℕ) → n ≤ k → _≡_ {A = List ℕ} (take n (replicate k 1)) (replicate n 1)
-take-replicate zero k h = refl
-take-replicate (suc n) zero h = absurd (omega arith)
-take-replicate (suc n) (suc k) h = ap (λ (l : List ℕ). 1 ∷ l) (take-replicate n k (le-of-suc-le-suc h))
+take-replicate zero k few = refl
+take-replicate (suc n) zero few = absurd (omega arith)
+take-replicate (suc n) (suc k) few = ap (λ (l : List ℕ). 1 ∷ l) (take-replicate n k (le-of-suc-le-suc few))
 
 -- A good choice exists at 1, so that a side above which there is none is at least 1.
 top-least : {ps : List Place} {top : ℕ} → Distinct ps → NoneFrom ps (top + 1) → 1 ≤ top
@@ -134,8 +136,8 @@ module _ {ps : List Place} {n top : ℕ} {between : Between} (is-between : Betwe
 
 -- The side of an answer, by the greatest judged side that has a good choice: free at the side at which free is judged.
 pub record SideIs (greatest : HalfUnits) (side : Side) : Type 0 where
-  pub free : greatest .0 ≡ freeSide → side ≡ Free
-  pub number : greatest .0 ≢ freeSide → side ≡ Number greatest
+  pub free : freeSide ≤ greatest .0 → side ≡ Free
+  pub number : greatest .0 < freeSide → side ≡ Number greatest
 
 -- The record of an answer whose n corners are these.
 placed-corners : {side : Side} {ps : List Place} {h : ℕ} (n : ℕ) (corners : List ℕ) → length ps ≡ n → First h ps (take n corners)
@@ -156,15 +158,16 @@ between-ends {ps} {n} {top} {between} {side} judged distinct count is-between la
     cs : List ℕ
     cs = take n (between .corners)
 
-    next : low ≢ freeSide → (es : List ℕ) → Good (suc low) ps es → ⊥
-    next below =
+    next : low < freeSide → (es : List ℕ) → Good (suc low) ps es → ⊥
+    next under =
         is-between .no-good .none-good (suc low) (omega (arith, is-between .below, is-between .most))
         (omega (arith, is-between .next-is .end last))
 
     go : Dec (low ≡ freeSide) → _≡_ {A = Answer} (record { side = side; corners = cs }) (answerOf ps)
     go (yes at-free) =
-        (λ k. record { side = is-side .free at-free k; corners = cs })
+        (λ k. record { side = is-side .free (omega arith) k; corners = cs })
         ∙ sym (answer-free distinct (subst (λ h. First h ps cs) at-free (is-between .first)))
-    go (no below) =
-        (λ k. record { side = is-side .number below k; corners = cs })
-        ∙ sym (answer-found distinct (is-between .least) (omega (arith, is-between .below, is-between .most)) (is-between .first) (next below))
+    go (no different) =
+        let under : low < freeSide = omega (arith, is-between .below, is-between .most) in
+        (λ k. record { side = is-side .number under k; corners = cs })
+        ∙ sym (answer-found distinct (is-between .least) (omega arith) (is-between .first) (next under))

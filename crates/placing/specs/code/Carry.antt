@@ -1,10 +1,10 @@
 -- The steps of a trial on its bytes: taking a corner, closing one, and carrying the decision of a site to the others, one by one.
 -- Assumes nothing.
-use mathlib.Core.Path.{_≡_, refl, sym, ap, _∙_}
+use mathlib.Core.Path.{_≡_, refl, sym, ap, _∙_, fun-ext}
 use mathlib.Core.Bool.{Bool, true, false, true≢false}
-use mathlib.Core.List.{List, [], _∷_}
+use mathlib.Core.List.{List}
 use mathlib.Core.Logic.{_≢_, Ne·symm, _⊎_, inl, inr, ⊎-elim}
-use Prim.Native.Nat.{ℕ, zero, suc, _+_, _-_, _*_, _≤_, _<_}
+use Prim.Native.Nat.{ℕ, _+_, _-_, _*_, _≤_, _<_}
 use native.Mathlib.Decide.{ℕ-discrete}
 use native.Mathlib.Omega.{arith}
 use lib.ListN.{length, getD, set, length-set}
@@ -12,95 +12,47 @@ use lib.Seq.{getD-set-same, getD-set-other}
 use Rattle.placing.specs.declared.units.HalfUnits.{HalfUnits}
 use Rattle.placing.specs.rules.Corner.{Corner}
 use Rattle.placing.specs.rules.Units.{mostSites}
-use Rattle.placing.specs.code.Sites.{held-place}
-use Rattle.placing.specs.rules.Corners.{cornerAt}
+use Rattle.placing.specs.rules.Choice.{cornerAt}
 use Rattle.placing.specs.search.Problem.{Problem}
-use Rattle.placing.specs.search.Rows.{rowOf, row-zero, row-at, row-written, row-kept, row-elsewhere}
+use Rattle.placing.specs.search.Rows.{wayOf, rowOf, row-zero, row-at, open-corner, row-same, row-written, row-kept, row-elsewhere}
 use Rattle.placing.specs.search.State.{SomeOpen, TwoOpen, CarriedTo}
+use Rattle.placing.specs.code.Sites.{held-place}
+use Rattle.placing.specs.code.Filled.{Filled, filled-elsewhere}
 use Rattle.placing.specs.code.Labels.{labels}
 use Rattle.placing.specs.code.Asks.{MayCarryTo, MayCarryOut}
 use Rattle.placing.specs.code.Ways.{Sizes, Lone, NoneOpen, TakenCorner, ClosedCorner, Settled, Clash, CarriedThere, CarriedOut}
 
+-- All corners of site i are closed.
+abbrev pub Cleared : (i e : ℕ) (ways ways′ : List ℕ) → Type 0
+Cleared i = Filled 0 (λ k byte. byte ≡ 0) (4 * i)
+
 -- The bytes with corner c of site j written as v.
 abbrev written : List ℕ → ℕ → ℕ → ℕ → List ℕ
-written ways j c v = set ways (4 * j + (c - 1)) v
-
--- The byte at n is 0.
-record ZeroAt (ways : List ℕ) (n : ℕ) : Type 0 where
-  is-zero : getD ways n 0 ≡ 0
-
--- Writing a 0 puts it there, past the end too, where nothing stands.
-zeroed : (ways : List ℕ) (n : ℕ) → ZeroAt (set ways n 0) n
-zeroed ways n = record { is-zero = at-index ways n }
-  where
-    at-index : (xs : List ℕ) (m : ℕ) → getD (set xs m 0) m 0 ≡ 0
-    at-index [] m = refl
-    at-index (x ∷ xs) zero = refl
-    at-index (x ∷ xs) (suc m) = at-index xs m
-
--- Writing a 0 leaves a 0 elsewhere.
-stays-zero : {ways : List ℕ} {m : ℕ} (n : ℕ) → ZeroAt ways m → ZeroAt (set ways n 0) m
-stays-zero {ways} {m} n zero-there = from (ℕ-discrete m n)
-  where
-    from : Dec (m ≡ n) → ZeroAt (set ways n 0) m
-    from (yes p) = rw p (zeroed ways n)
-    from (no d) = record { is-zero = getD-set-other ways n m 0 0 d ∙ zero-there .is-zero }
-
--- A row of four bytes that are 0.
-row-of-zeros : (ways : List ℕ) (i : ℕ) → ZeroAt ways (4 * i) → ZeroAt ways (4 * i + 1) → ZeroAt ways (4 * i + 2) → ZeroAt ways (4 * i + 3)
-    → (e : ℕ) → rowOf ways i e ≡ 0
-unfolding rowOf
-row-of-zeros ways i at-1 at-2 at-3 at-4 zero = refl
-row-of-zeros ways i at-1 at-2 at-3 at-4 (suc zero) = at-1 .is-zero
-row-of-zeros ways i at-1 at-2 at-3 at-4 (suc (suc zero)) = at-2 .is-zero
-row-of-zeros ways i at-1 at-2 at-3 at-4 (suc (suc (suc zero))) = at-3 .is-zero
-row-of-zeros ways i at-1 at-2 at-3 at-4 (suc (suc (suc (suc zero)))) = at-4 .is-zero
-row-of-zeros ways i at-1 at-2 at-3 at-4 (suc (suc (suc (suc (suc e))))) = refl
-
--- The bytes with all corners of site i closed.
-abbrev cleared : List ℕ → ℕ → List ℕ
-cleared ways i = set (set (set (set ways (4 * i) 0) (4 * i + 1) 0) (4 * i + 2) 0) (4 * i + 3) 0
-
--- Then no corner of the site is open.
-row-cleared : (ways : List ℕ) (i e : ℕ) → rowOf (cleared ways i) i e ≡ 0
-row-cleared ways i =
-    let once = set ways (4 * i) 0 in
-    let twice = set once (4 * i + 1) 0 in
-    let thrice = set twice (4 * i + 2) 0 in
-    row-of-zeros (cleared ways i) i
-    (stays-zero (4 * i + 3) (stays-zero (4 * i + 2) (stays-zero (4 * i + 1) (zeroed ways (4 * i)))))
-    (stays-zero (4 * i + 3) (stays-zero (4 * i + 2) (zeroed once (4 * i + 1))))
-    (stays-zero (4 * i + 3) (zeroed twice (4 * i + 2)))
-    (zeroed thrice (4 * i + 3))
-
--- Clearing a site leaves the others as they are.
-cleared-elsewhere : (ways : List ℕ) (i j : ℕ) → j ≢ i → rowOf (cleared ways i) j ≡ rowOf ways j
-cleared-elsewhere ways i j different =
-    row-elsewhere _ i (4 * i + 3) 0 j (omega arith) (omega arith) different
-    ∙ row-elsewhere _ i (4 * i + 2) 0 j (omega arith) (omega arith) different
-    ∙ row-elsewhere _ i (4 * i + 1) 0 j (omega arith) (omega arith) different
-    ∙ row-elsewhere ways i (4 * i) 0 j (omega arith) (omega arith) different
+written ways j c v = set ways (wayOf j c) v
 
 -- Clearing a site and writing one corner takes that corner.
-pub taken-corner : (ways decided : List ℕ) (i c : ℕ) → Sizes ways decided → i < mostSites → Corner c
-    → TakenCorner ways decided i c (written (cleared ways i) i c 1) (set decided i c)
-taken-corner ways decided i c sizes listed corner =
+pub taken-corner : {ways cleared decided : List ℕ} {i c : ℕ} → Sizes ways decided → i < mostSites → Corner c → Cleared i 4 ways cleared
+    → TakenCorner ways decided i c (written cleared i c 1) (set decided i c)
+taken-corner {ways} {cleared} {decided} {i} {c} sizes listed corner zeros =
     record {
-      sizes = record { ways-size = simp length-set (sizes .ways-size); decided-size = simp length-set (sizes .decided-size) };
-      lone = record { is-open = row-written (cleared ways i) i c 1 corner (simp length-set (omega arith)); alone = alone };
+      sizes = record { ways-size = simp length-set size; decided-size = simp length-set (sizes .decided-size) };
+      lone = record { is-open = row-written cleared i c 1 corner (omega (arith, size)); alone = λ e. alone e (ℕ-discrete e c) };
       takes = getD-set-same decided i c 0 (omega arith);
       elsewhere = λ j different.
-          row-elsewhere (cleared ways i) i (4 * i + (c - 1)) 1 j (omega arith) (omega arith) different
-          ∙ cleared-elsewhere ways i j different;
+          row-elsewhere cleared i c 1 corner j different
+          ∙ fun-ext (λ e. row-same ways cleared j e (filled-elsewhere zeros j e different));
       decided-elsewhere = λ j different. getD-set-other decided i j c 0 different;
     }
   where
-    alone : (e : ℕ) → rowOf (written (cleared ways i) i c 1) i e ≡ 1 → e ≡ c
-    alone e is-open = from (ℕ-discrete e c)
-      where
-        from : Dec (e ≡ c) → e ≡ c
-        from (yes p) = p
-        from (no d) = omega (arith, row-kept (cleared ways i) i c 1 e corner d, row-cleared ways i e)
+    size : length cleared ≡ 4 * mostSites
+    size = zeros .size ∙ sizes .ways-size
+
+    alone : (e : ℕ) → Dec (e ≡ c) → rowOf (written cleared i c 1) i e ≡ 1 → e ≡ c
+    alone e (yes same) is-open = same
+    alone e (no different) is-open =
+        let was-open = sym (row-kept cleared i c 1 corner e different) ∙ is-open in
+        let there = open-corner cleared i e was-open in
+        absurd (omega (arith, row-at cleared i e there, zeros .there (e - 1) (omega arith)))
 
 module _ (ways decided : List ℕ) (j c : ℕ) (sizes : Sizes ways decided) (listed : j < mostSites) (corner : Corner c) where
   -- Closing a corner, whatever is left of the site and decided for it.
@@ -114,9 +66,9 @@ module _ (ways decided : List ℕ) (j c : ℕ) (sizes : Sizes ways decided) (lis
   closed-corner ok decided′ size decided-elsewhere none-left some-left =
       record {
         sizes = record { ways-size = simp length-set (sizes .ways-size); decided-size = size };
-        shut = λ open-now. omega (arith, row-written ways j c 0 corner (omega arith));
-        kept = λ e. row-kept ways j c 0 e corner;
-        elsewhere = λ i. row-elsewhere ways j (4 * j + (c - 1)) 0 i (omega arith) (omega arith);
+        shut = λ is-open. omega (arith, row-written ways j c 0 corner (omega arith));
+        kept = row-kept ways j c 0 corner;
+        elsewhere = row-elsewhere ways j c 0 corner;
         decided-elsewhere = decided-elsewhere;
         none-left = none-left;
         some-left = some-left;
@@ -153,14 +105,14 @@ module _ (P : Problem) (ways decided : List ℕ) (k j : ℕ) (settled : Settled 
         own = refl;
         own-decided = refl;
         carried = λ e different. record {
-          closes = λ e h. h;
+          closes = λ e is-open. is-open;
           apart = apart different;
-          keeps = λ e h. inl h;
-          stays-decided = λ h. refl;
-          stays-open = λ h. settled .settled h .is-open;
+          keeps = λ e is-open. inl is-open;
+          stays-decided = λ d. refl;
+          stays-open = λ d. settled .settled d .is-open;
           decides-open = λ free taken. absurd (taken free);
           decides-alone = λ e free taken. absurd (taken free);
-          two-left = λ e free was-open now-shut. absurd (now-shut was-open);
+          two-left = λ e free was-open shut. absurd (shut was-open);
         };
         stuck-other = λ e. absurd (true≢false e);
         stuck = λ e. absurd (true≢false e);
@@ -180,27 +132,27 @@ module _ (P : Problem) (ways decided : List ℕ) (k j : ℕ) (settled : Settled 
         own-decided = closed .decided-elsewhere k (Ne·symm different);
         carried = λ yes-ok other. carried (closed .some-left yes-ok);
         stuck-other = λ no-ok. different;
-        stuck = λ no-ok e h. ⊎-elim (λ still. absurd (closed .none-left no-ok .none-open e still)) (λ x. x) (keeps e h);
+        stuck = λ no-ok e was. ⊎-elim (λ still. absurd (closed .none-left no-ok .none-open e still)) (λ x. x) (keeps e was);
       }
     where
       keeps : (e : ℕ) → rowOf ways j e ≡ 1 → (rowOf ways′ j e ≡ 1) ⊎ P .Conflict k (cornerAt decided k) j e
-      keeps e h = from (ℕ-discrete e c)
+      keeps e was = from (ℕ-discrete e c)
         where
           from : Dec (e ≡ c) → (rowOf ways′ j e ≡ 1) ⊎ P .Conflict k (cornerAt decided k) j e
           from (yes p) = inr (rw p conflict)
-          from (no d) = inl (closed .kept e d ∙ h)
+          from (no d) = inl (closed .kept e d ∙ was)
 
       other : (e : ℕ) → rowOf ways′ j e ≡ 1 → e ≢ c
-      other e h p = closed .shut (rw p at h)
+      other e still p = closed .shut (rw p at still)
 
       closes : (e : ℕ) → rowOf ways′ j e ≡ 1 → rowOf ways j e ≡ 1
-      closes e h = sym (closed .kept e (other e h)) ∙ h
+      closes e still = sym (closed .kept e (other e still)) ∙ still
 
       -- A decided site had no other corner open, so none is left.
       none-decided : (e : ℕ) → rowOf ways′ j e ≡ 1 → cornerAt decided j ≢ 0 → ⊥
-      none-decided e h d =
+      none-decided e still d =
           let lone = settled .settled d in
-          other e h (lone .alone e (closes e h) ∙ sym (lone .alone c was-open))
+          other e still (lone .alone e (closes e still) ∙ sym (lone .alone c was-open))
 
       Left′ : Type 0
       Left′ =
@@ -222,19 +174,19 @@ module _ (P : Problem) (ways decided : List ℕ) (k j : ℕ) (settled : Settled 
       carried left =
           record {
             closes = closes;
-            apart = λ e h conflict. other e h (only e (closes e h) conflict);
+            apart = λ e still conflict. other e still (only e (closes e still) conflict);
             keeps = keeps;
             stays-decided = λ d. absurd (undecided left d);
             stays-open = λ d. absurd (undecided left d);
             decides-open = λ free taken. decides left free taken .is-open;
             decides-alone = λ e free taken. decides left free taken .alone e;
-            two-left = λ e free was now-shut. two-left left free;
+            two-left = λ e free was-open shut. two-left left free;
           }
 
 module _ (xs ys : List ℕ) (side : HalfUnits) (ways decided : List ℕ) (k c j : ℕ)
     (may : MayCarryTo xs ys side ways decided k c j) where
   -- Carrying the decision c of site k to site j: its open corner c meets the label of site k, and was closed.
-  pub carried-meeting : (ok : Bool) (ways′ decided′ : List ℕ) → getD ways (4 * j + (c - 1)) 0 ≡ 1
+  pub carried-meeting : (ok : Bool) (ways′ decided′ : List ℕ) → getD ways (wayOf j c) 0 ≡ 1
       → Clash (side .0) xs ys k c j → ClosedCorner ways decided j c ok ways′ decided′
       → (n : ℕ) → CarriedThere (labels (side .0) n xs ys) ways decided k j ok ways′ decided′
   carried-meeting ok ways′ decided′ is-open clash closed n =
@@ -245,7 +197,7 @@ module _ (xs ys : List ℕ) (side : HalfUnits) (ways decided : List ℕ) (k c j 
       closed
 
   -- Its corner c is not open, or does not meet the label of site k.
-  pub carried-apart : (getD ways (4 * j + (c - 1)) 0 ≡ 1 → Clash (side .0) xs ys k c j → ⊥)
+  pub carried-apart : (getD ways (wayOf j c) 0 ≡ 1 → Clash (side .0) xs ys k c j → ⊥)
       → (n : ℕ) → CarriedThere (labels (side .0) n xs ys) ways decided k j true ways decided
   carried-apart apart n =
       carried-same (labels (side .0) n xs ys) ways decided k j (may .settled) (may .sizes)
@@ -287,7 +239,7 @@ pub record CarriedBelow (P : Problem) (ways₀ decided₀ : List ℕ) (k j : ℕ
 -- It starts with no site.
 pub carried-start : (P : Problem) (ways decided : List ℕ) (k : ℕ) → Sizes ways decided → CarriedBelow P ways decided k 0 ways decided
 carried-start P ways decided k sizes =
-    record { sizes = sizes; carried = λ i h. absurd (omega arith); later = λ i h. as-is i; own = as-is k }
+    record { sizes = sizes; carried = λ i reached. absurd (omega arith); later = λ i reached. as-is i; own = as-is k }
   where
     as-is : (i : ℕ) → SameSite ways decided ways decided i
     as-is i = record { row = refl; decision = refl }
@@ -313,8 +265,8 @@ module _ {P : Problem} {ways₀ decided₀ : List ℕ} {k j : ℕ} {ways decided
     carried-more yes-ok =
         record {
           sizes = there .sizes;
-          carried = λ i h other. from i h other (ℕ-discrete i j);
-          later = λ i h. kept i (omega arith) (below .later i (omega arith));
+          carried = λ i reached other. from i reached other (ℕ-discrete i j);
+          later = λ i reached. kept i (omega arith) (below .later i (omega arith));
           own = record { row = there .own ∙ below .own .row; decision = there .own-decided ∙ below .own .decision };
         }
       where
@@ -324,12 +276,12 @@ module _ {P : Problem} {ways₀ decided₀ : List ℕ} {k j : ℕ} {ways decided
 
         from : (i : ℕ) → i < j + 1 → i ≢ k → Dec (i ≡ j)
             → CarriedTo P ways₀ decided₀ k i ways′ decided′
-        from i h other (yes p) =
+        from i reached other (yes p) =
             let same = below .later j (omega arith) in
             rw p
             (carried-moved (same .row) (same .decision) (below .own .decision) refl refl
             (there .carried yes-ok (rw p at other)))
-        from i h other (no d) =
+        from i reached other (no d) =
             carried-moved refl refl refl (sym (there .elsewhere i d))
             (sym (there .decided-elsewhere i d))
             (below .carried i (omega arith) other)
@@ -345,8 +297,8 @@ module _ {P : Problem} {ways₀ decided₀ : List ℕ} {k j : ℕ} {ways decided
             site = j;
             listed = listed;
             different = there .stuck-other no-ok;
-            all-conflict = λ e h.
-                rw (below .own .decision) at (there .stuck no-ok e (ap (λ r. r e) (same .row) ∙ h));
+            all-conflict = λ e was.
+                rw (below .own .decision) at (there .stuck no-ok e (ap (λ r. r e) (same .row) ∙ was));
           };
         }
 

@@ -10,13 +10,15 @@ use lib.ListN.{length, take}
 use Rattle.placing.specs.declared.choice.Chosen.{Chosen}
 use Rattle.placing.specs.rules.Units.{mostSites}
 use Rattle.placing.specs.rules.Choice.{First}
-use Rattle.placing.specs.rules.Answer.{firstGood, first-found, none-found}
+use Rattle.placing.specs.deciding.Answer.{firstGood}
+use Rattle.placing.specs.theorems.Answer.{first-found, none-found}
 use Rattle.placing.specs.code.Sites.{sitesOf}
 use Rattle.placing.specs.search.State.{Walked}
 use Rattle.placing.specs.search.Decided.{walk-solution, walk-none-before}
 use Rattle.placing.specs.code.Labels.{labels, good-solution, solution-good}
 use Rattle.placing.specs.code.Ways.{WalkedTo}
 
+-- A list of corners, where an answer says yes.
 abbrev pub whereYes : Bool → List ℕ → Option (List ℕ)
 whereYes true cs = some cs
 whereYes false cs = none
@@ -35,8 +37,8 @@ decisions-first h n xs ys ways decided few walked =
     }
 
 -- A walk over all sites leaves the first good choice, or there is none.
-pub walked-choice : (h n : ℕ) (xs ys : List ℕ) (ok : Bool) (ways decided : List ℕ) → n ≤ mostSites → WalkedTo (labels h n xs ys) n ok ways decided
-    → whereYes ok (take n decided) ≡ firstGood h (sitesOf n xs ys)
+pub walked-choice : (h n : ℕ) (xs ys : List ℕ) (ok : Bool) (ways decided : List ℕ) → n ≤ mostSites
+    → WalkedTo (labels h n xs ys) n ok ways decided → whereYes ok (take n decided) ≡ firstGood h (sitesOf n xs ys)
 walked-choice h n xs ys true ways decided few walked =
     sym (first-found (decisions-first h n xs ys ways decided (omega (arith, walked .sizes .decided-size)) (walked .walked refl)))
 walked-choice h n xs ys false ways decided few walked =

@@ -1,162 +1,143 @@
--- The reaches of all sites, in four arrays, and the top: no judged side above it leaves every site a corner.
+-- The reaches of all sites, in one array, and the top: no judged side above it leaves every site a corner.
 -- Assumes nothing.
-use mathlib.Core.Path.{_≡_}
+use mathlib.Core.Path.{_≡_, ap, subst, _∙_}
 use mathlib.Core.List.{List}
-use Prim.Native.Nat.{ℕ, _+_, _/_, _≤_, _<_, max}
+use Prim.Native.Nat.{ℕ, _+_, _-_, _*_, _/_, _≤_, _<_, max}
 use native.Mathlib.Nat.{le-trans}
 use native.Mathlib.Decide.{ℕ-discrete, decLe}
 use native.Mathlib.Omega.{arith}
-use lib.ListN.{length, getD, set, length-set}
-use lib.Seq.{getD-set-same, getD-set-other}
-use Rattle.placing.specs.declared.crowding.Reaches.{Reaches}
+use borrow.Author.Count.{below-more}
+use lib.ListN.{length, getD}
 use Rattle.placing.specs.declared.crowding.Crowding.{Crowding}
 use Rattle.placing.specs.declared.units.HalfUnits.{HalfUnits}
 use Rattle.placing.specs.declared.units.Place.{Place}
-use Rattle.placing.specs.rules.Units.{mostSites, freeSide, doubled}
+use Rattle.placing.specs.rules.Units.{mostSites, freeSide}
 use Rattle.placing.specs.rules.Corner.{Corner}
-use Rattle.placing.specs.rules.Corners.{cornerAt}
-use Rattle.placing.specs.rules.Choice.{Good}
-use Rattle.placing.specs.code.Reach.{reachOf, SiteReaches, ReachesWithin, each-corner, lower-top}
+use Rattle.placing.specs.rules.Choice.{cornerAt, Good}
+use Rattle.placing.specs.search.Rows.{wayOf}
+use Rattle.placing.specs.code.Filled.{Filled, filled-elsewhere}
+use Rattle.placing.specs.code.Reach.{ReachIs, noReach, reachOf, SiteReaches, ReachesWithin}
 
 -- The side at which free is judged, as the code has it.
 abbrev pub judgedFree : HalfUnits
 judgedFree = record { 0 = freeSide }
 
--- The reach of a site that is not on the list: nothing depends on it.
-abbrev pub noReach : HalfUnits
-noReach = record { 0 = 0 }
-
--- The reaches of site i, off the four arrays.
-abbrev pub reachesAt : Crowding → ℕ → Reaches
-reachesAt crowding i =
-    record {
-      first = getD (crowding .first) i noReach;
-      second = getD (crowding .second) i noReach;
-      third = getD (crowding .third) i noReach;
-      fourth = getD (crowding .fourth) i noReach;
-    }
-
--- The greatest side at which a site with these reaches has a corner left: half the furthest of them.
-abbrev pub topOf : Reaches → ℕ
-topOf reaches = max (max (reaches .first .0) (reaches .second .0)) (max (reaches .third .0) (reaches .fourth .0)) / 2
+-- The reach of corner c of site i, in half units, off the array of all.
+abbrev pub reachAt : Crowding → ℕ → ℕ → ℕ
+reachAt crowding i c = getD (crowding .reaches) (wayOf i c) noReach .0
 
 -- No judged side from this one on has a good choice.
 pub record NoneFrom (ps : List Place) (side : ℕ) : Type 0 where
   pub none-good : (h : ℕ) → h ≤ freeSide → side ≤ h → (es : List ℕ) → Good h ps es → ⊥
 
--- The arrays have the reaches of the first n sites for sides up to the top, above which no judged side has a good choice.
+-- The array has the reaches of the first n sites for sides up to the top, above which no judged side has a good choice.
 pub record CrowdingIs (ps : List Place) (n : ℕ) (crowding : Crowding) : Type 0 where
   pub judged : crowding .top .0 ≤ freeSide
-  pub at-site : (i : ℕ) → i < n → SiteReaches ps (crowding .top .0) i (reachesAt crowding i)
+  pub at-corner : (i c : ℕ) → i < n → Corner c → ReachIs ps (crowding .top .0) i c (reachAt crowding i c)
   pub none-above : NoneFrom ps (crowding .top .0 + 1)
 
--- The greatest side at which a site has a corner left is within the top up to which its reaches are known ..
-top-falls : {top : ℕ} {reaches : Reaches} → ReachesWithin (doubled top) reaches → topOf reaches ≤ top
-top-falls {top} {reaches} inside =
-    let one = inside .within 1 (omega arith) in
-    let two = inside .within 2 (omega arith) in
-    let three = inside .within 3 (omega arith) in
-    let four = inside .within 4 (omega arith) in
-    omega arith
+-- The furthest of the first e reaches of a site: none of them is further, and it is within what all are within.
+pub record FurthestOf (reaches : List HalfUnits) (e furthest : ℕ) : Type 0 where
+  pub reached : (k : ℕ) → k < e → getD reaches k noReach .0 ≤ furthest
+  pub least : (m : ℕ) → ReachesWithin m reaches → furthest ≤ m
 
--- .. above it every reach is passed ..
-beyond-top : (reaches : Reaches) (h : ℕ) → topOf reaches < h → (c : ℕ) → Corner c → reachOf reaches c < doubled h
-beyond-top reaches h above =
-    each-corner (λ c. reachOf reaches c < doubled h) (omega arith) (omega arith) (omega arith) (omega arith)
+-- Of none it is 0,
+pub furthest-none : {reaches : List HalfUnits} → FurthestOf reaches 0 0
+furthest-none = record { reached = λ k none. absurd (omega arith); least = λ m within. omega arith }
 
--- .. so that all four corners are crowded, and there is no good choice.
-none-beyond : {ps : List Place} {top k : ℕ} {reaches : Reaches} → k < length ps → SiteReaches ps top k reaches → NoneFrom ps (top + 1)
-    → NoneFrom ps (topOf reaches + 1)
-none-beyond {ps} {top} {k} {reaches} listed site none =
+-- and of one more the larger.
+pub furthest-more : {reaches : List HalfUnits} {e furthest : ℕ} → e < 4 → FurthestOf reaches e furthest
+    → FurthestOf reaches (e + 1) (max furthest (getD reaches e noReach .0))
+furthest-more {reaches} {e} {furthest} corner so-far =
+    record {
+      reached = below-more _ e (λ k below. let reach = so-far .reached k below in omega arith) (omega arith);
+      least = λ m within.
+          let at : e + 1 - 1 ≡ e = omega arith in
+          let reach = subst (λ k. getD reaches k noReach .0 ≤ m) at (within .within (e + 1) (omega arith)) in
+          omega (arith, so-far .least m within);
+    }
+
+-- The array has the first e reaches of site k besides.
+abbrev pub SiteWritten : (crowding : Crowding) (k : ℕ) (reaches : List HalfUnits) (e : ℕ) (after : Crowding) → Type 0
+SiteWritten crowding k reaches e after =
+    Filled noReach (λ c reach. reach ≡ getD reaches c noReach) (4 * k) e (crowding .reaches) (after .reaches)
+
+-- It has all four, and the top that they leave: half the furthest of them.
+pub record WithSite (crowding : Crowding) (k : ℕ) (reaches : List HalfUnits) (after : Crowding) : Type 0 where
+  pub written : SiteWritten crowding k reaches 4 after
+  pub furthest : ℕ
+  pub of-all : FurthestOf reaches 4 furthest
+  pub half : after .top .0 ≡ furthest / 2
+
+-- Above half the furthest all four corners of the site are crowded, and there is no good choice.
+none-beyond : {ps : List Place} {top furthest k : ℕ} {reaches : List HalfUnits} → k < length ps → SiteReaches ps top k reaches
+    → FurthestOf reaches 4 furthest → NoneFrom ps (top + 1) → NoneFrom ps (furthest / 2 + 1)
+none-beyond {ps} {top} {furthest} {k} listed site of-all none =
     record { none-good = λ h judged above es good. go h judged above es good (decLe h top) }
   where
-    go : (h : ℕ) → h ≤ freeSide → topOf reaches + 1 ≤ h → (es : List ℕ) → Good h ps es → Dec (h ≤ top) → ⊥
+    go : (h : ℕ) → h ≤ freeSide → furthest / 2 + 1 ≤ h → (es : List ℕ) → Good h ps es → Dec (h ≤ top) → ⊥
     go h judged above es good (yes inside) =
         let c = cornerAt es k in
         let corner = good .corners .corner k listed in
-        good .uncrowded k listed (site .at-corner c corner .crowds h inside (beyond-top reaches h (omega arith) c corner))
+        let passed = of-all .reached (c - 1) (omega arith) in
+        good .uncrowded k listed (site .at-corner c corner .crowds h inside (omega arith))
     go h judged above es good (no outside) = none .none-good h judged (omega arith) es good
 
--- The arrays with the reaches of site k written, and the top.
-abbrev pub withSite : Crowding → ℕ → Reaches → HalfUnits → Crowding
-withSite crowding k reaches top =
-    record {
-      first = set (crowding .first) k (reaches .first);
-      second = set (crowding .second) k (reaches .second);
-      third = set (crowding .third) k (reaches .third);
-      fourth = set (crowding .fourth) k (reaches .fourth);
-      top = top;
-    }
-
--- The reaches of the sites below k, in arrays of full size.
+-- The reaches of the sites below k, in an array of full size.
 pub record CrowdingBelow (ps : List Place) (k : ℕ) (crowding : Crowding) : Type 0 where
-  pub first-size : length (crowding .first) ≡ mostSites
-  pub second-size : length (crowding .second) ≡ mostSites
-  pub third-size : length (crowding .third) ≡ mostSites
-  pub fourth-size : length (crowding .fourth) ≡ mostSites
+  pub size : length (crowding .reaches) ≡ 4 * mostSites
   pub reaches : CrowdingIs ps k crowding
 
 -- Those of no sites, with the side at which free is judged for the top ..
-pub crowding-none : {ps : List Place} {crowding : Crowding} → length (crowding .first) ≡ mostSites → length (crowding .second) ≡ mostSites
-    → length (crowding .third) ≡ mostSites → length (crowding .fourth) ≡ mostSites → crowding .top .0 ≡ freeSide
+pub crowding-none : {ps : List Place} {crowding : Crowding} → length (crowding .reaches) ≡ 4 * mostSites → crowding .top .0 ≡ freeSide
     → CrowdingBelow ps 0 crowding
-crowding-none one two three four free =
+crowding-none size free =
     record {
-      first-size = one;
-      second-size = two;
-      third-size = three;
-      fourth-size = four;
+      size = size;
       reaches = record {
         judged = omega arith;
-        at-site = λ i listed. absurd (omega arith);
+        at-corner = λ i c listed. absurd (omega arith);
         none-above = record { none-good = λ h judged above. absurd (omega arith) };
       };
     }
 
 -- .. and of one site more.
-pub crowding-more : {ps : List Place} {k : ℕ} {crowding : Crowding} {reaches : Reaches} {top : HalfUnits} → k < mostSites → k < length ps
-    → CrowdingBelow ps k crowding → SiteReaches ps (crowding .top .0) k reaches → ReachesWithin (doubled (crowding .top .0)) reaches
-    → top .0 ≡ topOf reaches → CrowdingBelow ps (k + 1) (withSite crowding k reaches top)
-crowding-more {ps} {k} {crowding} {reaches} {top} inside listed so-far site within is =
+pub crowding-more : {ps : List Place} {k : ℕ} {crowding after : Crowding} {reaches : List HalfUnits} → k < length ps
+    → CrowdingBelow ps k crowding → SiteReaches ps (crowding .top .0) k reaches → ReachesWithin (2 * crowding .top .0) reaches
+    → WithSite crowding k reaches after → CrowdingBelow ps (k + 1) after
+crowding-more {ps} {k} {crowding} {after} {reaches} listed so-far site within with-site =
     record {
-      first-size = simp length-set (so-far .first-size);
-      second-size = simp length-set (so-far .second-size);
-      third-size = simp length-set (so-far .third-size);
-      fourth-size = simp length-set (so-far .fourth-size);
+      size = with-site .written .size ∙ so-far .size;
       reaches = record {
         judged = le-trans lower (so-far .reaches .judged);
-        at-site = λ i there. go i there (ℕ-discrete i k);
-        none-above = rw is (none-beyond listed site (so-far .reaches .none-above));
+        at-corner = λ i c there corner. lower-top (go i c there corner (ℕ-discrete i k));
+        none-above = rw (with-site .half) (none-beyond listed site (with-site .of-all) (so-far .reaches .none-above));
       };
     }
   where
-    lower : top .0 ≤ crowding .top .0
-    lower = rw is (top-falls within)
+    halfUnits : HalfUnits → ℕ
+    halfUnits reach = reach .0
 
-    go : (i : ℕ) → i < k + 1 → Dec (i ≡ k) → SiteReaches ps (top .0) i (reachesAt (withSite crowding k reaches top) i)
-    go i there (yes last) =
-        rw (
-          last,
-          getD-set-same (crowding .first) k (reaches .first) noReach (omega (arith, so-far .first-size)),
-          getD-set-same (crowding .second) k (reaches .second) noReach (omega (arith, so-far .second-size)),
-          getD-set-same (crowding .third) k (reaches .third) noReach (omega (arith, so-far .third-size)),
-          getD-set-same (crowding .fourth) k (reaches .fourth) noReach (omega (arith, so-far .fourth-size)),
-        )
-        (lower-top lower site)
-    go i there (no earlier) =
-        rw (
-          getD-set-other (crowding .first) k i (reaches .first) noReach earlier,
-          getD-set-other (crowding .second) k i (reaches .second) noReach earlier,
-          getD-set-other (crowding .third) k i (reaches .third) noReach earlier,
-          getD-set-other (crowding .fourth) k i (reaches .fourth) noReach earlier,
-        )
-        (lower-top lower (so-far .reaches .at-site i (omega arith)))
+    lower : after .top .0 ≤ crowding .top .0
+    lower = let most = with-site .of-all .least (2 * crowding .top .0) within in omega (arith, with-site .half)
+
+    lower-top : {i c r : ℕ} → ReachIs ps (crowding .top .0) i c r → ReachIs ps (after .top .0) i c r
+    lower-top is =
+        record { crowds = λ h inside. is .crowds h (le-trans inside lower); below = λ h inside. is .below h (le-trans inside lower) }
+
+    go : (i c : ℕ) → i < k + 1 → Corner c → Dec (i ≡ k) → ReachIs ps (crowding .top .0) i c (reachAt after i c)
+    go i c there corner (yes last) =
+        let own : reachAt after k c ≡ reachOf reaches c = ap halfUnits (with-site .written .there (c - 1) (omega arith)) in
+        rw (last, own) (site .at-corner c corner)
+    go i c there corner (no earlier) =
+        let same : reachAt after i c ≡ reachAt crowding i c = ap halfUnits (filled-elsewhere (with-site .written) i c earlier corner) in
+        rw same (so-far .reaches .at-corner i c (omega arith) corner)
 
 -- With all sites written they are the list's.
 pub crowding-all : {ps : List Place} {n k : ℕ} {crowding : Crowding} → n ≤ k → CrowdingBelow ps k crowding → CrowdingIs ps n crowding
 crowding-all all so-far =
     record {
       judged = so-far .reaches .judged;
-      at-site = λ i listed. so-far .reaches .at-site i (le-trans listed all);
+      at-corner = λ i c listed. so-far .reaches .at-corner i c (le-trans listed all);
       none-above = so-far .reaches .none-above;
     }

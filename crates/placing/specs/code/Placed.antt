@@ -1,6 +1,6 @@
 -- What finding the answer of a list of places asks.
 -- Assumes nothing.
-use mathlib.Core.Path.{_≡_, sym, ap, _∙_}
+use mathlib.Core.Path.{_≡_, sym, ap, subst, _∙_}
 use mathlib.Core.List.{List}
 use Prim.Native.Nat.{ℕ, _*_, _≤_, _<_}
 use native.Mathlib.Nat.{mul-le-mul-right}
@@ -8,9 +8,9 @@ use native.Mathlib.Omega.{arith}
 use lib.ListN.{length, take}
 use Rattle.placing.specs.declared.crowding.Crowding.{Crowding}
 use Rattle.placing.specs.declared.units.Place.{Place}
-use Rattle.placing.specs.rules.Units.{Distinct, xOf, yOf, siteAt}
-use Rattle.placing.specs.rules.Placing.{MayPlace}
-use Rattle.placing.specs.code.Sites.{Held, CoordinatesOf, placeAt, sitesOf, length-sites, site-at}
+use Rattle.placing.specs.rules.Units.{Distinct, siteAt, OnPlan}
+use Rattle.placing.specs.calls.Placing.{MayPlace}
+use Rattle.placing.specs.code.Sites.{Held, CoordinatesOf, siteIn, sitesOf, length-sites, site-at}
 use Rattle.placing.specs.code.Crowding.{judgedFree, CrowdingIs}
 
 -- Finding the answer of n sites at these coordinates.
@@ -35,8 +35,7 @@ may-find {n} {sites} {xs} {ys} {table} may at =
         few = may .few;
         x-size = at .x-size;
         y-size = at .y-size;
-        x-range = λ i h. rw (ap xOf (same i h)) (may .in-range .x-range i (listed i h));
-        y-range = λ i h. rw (ap yOf (same i h)) (may .in-range .y-range i (listed i h));
+        in-range = λ i below. subst OnPlan (sym (same i below)) (may .in-range .in-range i (listed i below));
         judged = omega arith;
       };
       distinct = rw (at .same-sites) (may .distinct);
@@ -46,7 +45,7 @@ may-find {n} {sites} {xs} {ys} {table} may at =
     }
   where
     listed : (i : ℕ) → i < n → i < length (take n sites)
-    listed i h = rw (← at .same-sites, length-sites) h
+    listed i below = rw (← at .same-sites, length-sites) below
 
-    same : (i : ℕ) → i < n → placeAt xs ys i ≡ siteAt (take n sites) i
-    same i h = sym (site-at n xs ys i h) ∙ ap (λ (l : List Place). siteAt l i) (at .same-sites)
+    same : (i : ℕ) → i < n → siteIn xs ys i ≡ siteAt (take n sites) i
+    same i below = sym (site-at n xs ys i below) ∙ ap (λ (l : List Place). siteAt l i) (at .same-sites)

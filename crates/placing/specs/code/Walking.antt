@@ -1,59 +1,37 @@
 -- One site of the walk: its corners are tried from the lowest up, until a trial does not fail.
 -- Assumes nothing.
-use mathlib.Core.Path.{_≡_, refl, sym, _∙_, ap}
+use mathlib.Core.Path.{_≡_, refl, sym, _∙_}
 use mathlib.Core.Bool.{Bool, true, false, true≢false}
 use mathlib.Core.List.{List}
 use mathlib.Core.Logic.{_≢_}
-use Prim.Native.Nat.{ℕ, zero, suc, _+_, _*_, _≤_, _<_}
-use native.Mathlib.Nat.{add-zero}
-use native.Mathlib.Decide.{decLe}
+use Prim.Native.Nat.{ℕ, _+_, _*_, _≤_, _<_}
 use native.Mathlib.Omega.{arith}
 use lib.ListN.{getD}
-use Rattle.placing.specs.rules.Corners.{cornerAt}
+use Rattle.placing.specs.rules.Choice.{cornerAt}
 use Rattle.placing.specs.search.Problem.{Problem}
-use Rattle.placing.specs.search.Rows.{rowOf}
+use Rattle.placing.specs.search.Rows.{row-zero, row-next}
 use Rattle.placing.specs.search.State.{Refused, Walked}
 use Rattle.placing.specs.search.Walk.{refused-closed, walk-takes, walk-stuck}
 use Rattle.placing.specs.code.Ways.{Tried, WalkedTo, Sizes}
 
--- The byte of corner e + 1 of site i.
-pub row-next : (ways : List ℕ) (i e : ℕ) → e < 4 → rowOf ways i (e + 1) ≡ getD ways (4 * i + e) 0
-unfolding rowOf
-row-next ways i zero h = ap (λ (k : ℕ). getD ways k 0) (sym (add-zero (4 * i)))
-row-next ways i (suc zero) h = refl
-row-next ways i (suc (suc zero)) h = refl
-row-next ways i (suc (suc (suc zero))) h = refl
-row-next ways i (suc (suc (suc (suc e)))) h = absurd (omega arith)
-
 -- The corners of site i up to e are refused.
-pub record RefusedUpTo (P : Problem) (ways : List ℕ) (i e : ℕ) : Type 0 where
-  pub refused : (c : ℕ) → c ≤ e → Refused P ways i c
+abbrev pub RefusedUpTo : (P : Problem) (ways : List ℕ) (i e : ℕ) → Type 0
+RefusedUpTo P ways i e = (c : ℕ) → c ≤ e → Refused P ways i c
 
 -- There is no corner 0.
 pub refused-none : {P : Problem} {i : ℕ} (ways : List ℕ) → i < P .n → RefusedUpTo P ways i 0
-unfolding rowOf
-refused-none {P} {i} ways listed =
-    record { refused = λ c none. refused-closed listed (λ o. let z : c ≡ 0 = omega arith in absurd (closed (rw z at o))) }
-  where
-    closed : rowOf ways i 0 ≡ 1 → ⊥
-    closed o = omega arith
-
-pub refused-more : {P : Problem} {ways : List ℕ} {i : ℕ} (e : ℕ) → RefusedUpTo P ways i e → Refused P ways i (e + 1) → RefusedUpTo P ways i (e + 1)
-refused-more {P} {ways} {i} e before next = record { refused = λ c h. from c h (decLe c e) }
-  where
-    from : (c : ℕ) → c ≤ e + 1 → Dec (c ≤ e) → Refused P ways i c
-    from c h (yes k) = before .refused c k
-    from c h (no k) = let last : c ≡ e + 1 = omega arith in rw last next
+refused-none {P} {i} ways listed c none =
+    refused-closed listed (λ o. let zeroth : c ≡ 0 = omega arith in omega (arith, row-zero ways i, rw zeroth at o))
 
 -- A corner whose byte is not 1 fails without a trial.
 pub tried-shut : {P : Problem} {ways decided : List ℕ} {i : ℕ} (e : ℕ) → Sizes ways decided → i < P .n → e < 4
     → getD ways (4 * i + e) 0 ≢ 1 → Tried P ways decided i (e + 1) false ways decided
-tried-shut {P} {ways} {decided} {i} e sizes listed h shut =
+tried-shut {P} {ways} {decided} {i} e sizes listed corner shut =
     record {
       sizes = sizes;
       closed = λ o. absurd (true≢false (sym o));
-      onward = λ o. absurd (true≢false (sym o));
-      refused = λ o. refused-closed listed (λ is-open. shut (sym (row-next ways i e h) ∙ is-open));
+      later = λ o. absurd (true≢false (sym o));
+      refused = λ o. refused-closed listed (λ is-open. shut (sym (row-next ways i e corner) ∙ is-open));
       ways-back = λ o. refl;
       decided-back = λ o. refl;
     }
@@ -69,7 +47,7 @@ pub takes-corner : {P : Problem} {ways decided ways′ decided′ : List ℕ} {i
     → WalkedTo P (i + 1) true ways′ decided′
 takes-corner e walked listed undecided before tried yes-ok =
     walked-to (tried .sizes)
-    (walk-takes walked listed undecided (λ c h. before .refused c (omega arith)) (tried .closed yes-ok) (tried .onward yes-ok) (omega arith))
+    (walk-takes walked listed undecided (λ c lower. before c (omega arith)) (tried .closed yes-ok) (tried .later yes-ok) (omega arith))
 
 -- Where every corner is refused there is no solution.
 pub takes-none : {P : Problem} {ways decided : List ℕ} {i e : ℕ} → Sizes ways decided → Walked P i ways decided → i < P .n
@@ -78,7 +56,7 @@ takes-none sizes walked listed all before =
     record {
       sizes = sizes;
       walked = λ o. let z : _≡_ {A = ℕ} 0 1 = cc in absurd (omega arith);
-      no-solution = λ o. walk-stuck walked listed (λ c corner. before .refused c (omega arith));
+      no-solution = λ o. walk-stuck walked listed (λ c corner. before c (omega arith));
     }
 
 -- A walk that found no solution found none for any site.

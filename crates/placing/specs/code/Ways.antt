@@ -5,58 +5,33 @@ use mathlib.Core.Path.{_≡_, refl}
 use mathlib.Core.Bool.{Bool, true, false}
 use mathlib.Core.List.{List}
 use mathlib.Core.Logic.{_≢_, _⊎_}
-use Prim.Native.Nat.{ℕ, zero, suc, _*_, _≤_, _<_}
+use Prim.Native.Nat.{ℕ, zero, suc, _+_, _*_, _≤_, _<_}
+use native.Mathlib.Decide.{decLe}
 use native.Mathlib.Omega.{arith}
 use lib.ListN.{length, getD, drop}
 use Rattle.placing.specs.declared.trial.Left.{Left}
 use Rattle.placing.specs.declared.trial.Left.the-variants.{Nothing, One, More}
 use Rattle.placing.specs.rules.Units.{mostSites}
-use Rattle.placing.specs.rules.Meet.{Meet}
-use Rattle.placing.specs.rules.Corners.{cornerAt}
-use Rattle.placing.specs.code.Sites.{placeAt}
+use Rattle.placing.specs.rules.Label.{Meet}
+use Rattle.placing.specs.rules.Choice.{cornerAt}
 use Rattle.placing.specs.search.Problem.{Problem, Solution}
-use Rattle.placing.specs.search.Rows.{rowAt, rowOf}
-use Rattle.placing.specs.search.State.{SomeOpen, CarriedTo, Carried, Stuck, Closed, Onward, Refused, Walked}
+use Rattle.placing.specs.search.Rows.{rowOf, row-zero, open-corner}
+use Rattle.placing.specs.search.State.{SomeOpen, CarriedTo, Carried, Stuck, Closed, Later, Refused, Walked}
+use Rattle.placing.specs.code.Sites.{siteIn}
 
+-- A byte for each corner of each site, and one for each site.
 pub record Sizes (ways decided : List ℕ) : Type 0 where
   pub ways-size : length ways ≡ 4 * mostSites
   pub decided-size : length decided ≡ mostSites
 
--- Corner c alone is open.
+-- Corner c alone is open, by the bytes of a row.
 pub record Lone (row : ℕ → ℕ) (c : ℕ) : Type 0 where
   pub is-open : row c ≡ 1
   pub alone : (e : ℕ) → row e ≡ 1 → e ≡ c
 
+-- No corner is open.
 pub record NoneOpen (row : ℕ → ℕ) : Type 0 where
   pub none-open : (e : ℕ) → row e ≡ 1 → ⊥
-
--- What holds of each open corner of four bytes holds of every open one.
-by-corner : (Q : ℕ → Type 0) (a b c d : ℕ) → (a ≡ 1 → Q 1) → (b ≡ 1 → Q 2) → (c ≡ 1 → Q 3) → (d ≡ 1 → Q 4)
-    → (e : ℕ) → rowAt a b c d e ≡ 1 → Q e
-by-corner Q a b c d at-a at-b at-c at-d zero h = absurd (omega arith)
-by-corner Q a b c d at-a at-b at-c at-d (suc zero) h = at-a h
-by-corner Q a b c d at-a at-b at-c at-d (suc (suc zero)) h = at-b h
-by-corner Q a b c d at-a at-b at-c at-d (suc (suc (suc zero))) h = at-c h
-by-corner Q a b c d at-a at-b at-c at-d (suc (suc (suc (suc zero)))) h = at-d h
-by-corner Q a b c d at-a at-b at-c at-d (suc (suc (suc (suc (suc e))))) h = absurd (omega arith)
-
--- Corner k alone is open, by four bytes.
-pub lone-row : (a b c d k : ℕ) → (rowAt a b c d k ≡ 1) × (a ≡ 1 → 1 ≡ k) × (b ≡ 1 → 2 ≡ k) × (c ≡ 1 → 3 ≡ k) × (d ≡ 1 → 4 ≡ k)
-    → Lone (rowAt a b c d) k
-lone-row a b c d k h = record { is-open = h .0; alone = by-corner (λ e. e ≡ k) a b c d (h .1) (h .2) (h .3) (h .4) }
-
--- No corner is open, by four bytes.
-pub none-row : (a b c d : ℕ) → (a ≢ 1) × (b ≢ 1) × (c ≢ 1) × (d ≢ 1) → NoneOpen (rowAt a b c d)
-none-row a b c d h = record { none-open = by-corner (λ e. ⊥) a b c d (h .0) (h .1) (h .2) (h .3) }
-
--- Two corners are open.
-pub some-row : {row : ℕ → ℕ} (e f : ℕ) → (e ≢ f) × (row e ≡ 1) × (row f ≡ 1) → SomeOpen row
-some-row e f h = record { one = e; two = f; differ = h .0; one-open = h .1; two-open = h .2 }
-
--- An open corner, alone or with others.
-abbrev pub oneOrMore : ℕ → Bool → Left
-oneOrMore c true = More
-oneOrMore c false = One c
 
 -- What the count of a site's open corners says.
 abbrev pub LeftIs : Left → (ℕ → ℕ) → Type 0
@@ -64,11 +39,51 @@ LeftIs Nothing row = NoneOpen row
 LeftIs (One c) row = Lone row c
 LeftIs More row = SomeOpen row
 
--- A flag says whether an open corner is one of more.
-pub left-by : {row : ℕ → ℕ} (c : ℕ) (others : Bool) → (others ≡ true → SomeOpen row) → (others ≡ false → Lone row c)
-    → LeftIs (oneOrMore c others) row
-left-by c true some lone = some refl
-left-by c false some lone = lone refl
+-- The count with one open corner more.
+abbrev pub oneMore : Left → ℕ → Left
+oneMore Nothing c = One c
+oneMore (One e) c = More
+oneMore More c = More
+
+-- The count of the open corners up to e.
+pub data LeftUpTo (row : ℕ → ℕ) (e : ℕ) : Left → Type 0 where
+  nothing : ((k : ℕ) → k ≤ e → row k ≡ 1 → ⊥) → LeftUpTo row e Nothing
+  one : {c : ℕ} → c ≤ e → row c ≡ 1 → ((k : ℕ) → k ≤ e → row k ≡ 1 → k ≡ c) → LeftUpTo row e (One c)
+  more : SomeOpen row → LeftUpTo row e More
+
+-- What holds of every number up to e, and of e + 1, holds of every number up to e + 1.
+pub up-to-more : (Q : ℕ → Type 0) (e : ℕ) → ((k : ℕ) → k ≤ e → Q k) → Q (e + 1) → (k : ℕ) → k ≤ e + 1 → Q k
+up-to-more Q e before next k inside = from (decLe k e)
+  where
+    from : Dec (k ≤ e) → Q k
+    from (yes below) = before k below
+    from (no above) = let last : k ≡ e + 1 = omega arith in rw last next
+
+-- It starts with nothing: there is no corner 0.
+pub left-none : (ways : List ℕ) (j : ℕ) → LeftUpTo (rowOf ways j) 0 Nothing
+left-none ways j =
+    nothing (λ k none is-open. let zeroth : k ≡ 0 = omega arith in omega (arith, row-zero ways j, rw zeroth at is-open))
+
+-- An open corner makes one more,
+pub left-open : {row : ℕ → ℕ} {e : ℕ} {left : Left} → LeftUpTo row e left → row (e + 1) ≡ 1 → LeftUpTo row (e + 1) (oneMore left (e + 1))
+left-open {row} {e} (nothing none) is-open =
+    one {c = e + 1} (omega arith) is-open (up-to-more (λ k. row k ≡ 1 → k ≡ e + 1) e (λ k below o. absurd (none k below o)) (λ o. refl))
+left-open {row} {e} (one {c} inside was-open alone) is-open =
+    more (record { one = c; two = e + 1; differ = omega arith; one-open = was-open; two-open = is-open })
+left-open (more some) is-open = more some
+
+-- and any other leaves the count.
+pub left-shut : {row : ℕ → ℕ} {e : ℕ} {left : Left} → LeftUpTo row e left → row (e + 1) ≢ 1 → LeftUpTo row (e + 1) left
+left-shut {row} {e} (nothing none) shut = nothing (up-to-more (λ k. row k ≡ 1 → ⊥) e none shut)
+left-shut {row} {e} (one {c} inside was-open alone) shut =
+    one {c = c} (omega arith) was-open (up-to-more (λ k. row k ≡ 1 → k ≡ c) e alone (λ o. absurd (shut o)))
+left-shut (more some) shut = more some
+
+-- Up to 4 all corners are counted.
+pub left-all : (ways : List ℕ) (j : ℕ) {left : Left} → LeftUpTo (rowOf ways j) 4 left → LeftIs left (rowOf ways j)
+left-all ways j (nothing none) = record { none-open = λ e o. none e (open-corner ways j e o .most) o }
+left-all ways j (one inside is-open alone) = record { is-open = is-open; alone = λ e o. alone e (open-corner ways j e o .most) o }
+left-all ways j (more some) = some
 
 -- Corner c of site i was taken: it alone is open, and decided.
 pub record TakenCorner (ways decided : List ℕ) (i c : ℕ) (ways′ decided′ : List ℕ) : Type 0 where
@@ -93,13 +108,14 @@ pub record ClosedCorner (ways decided : List ℕ) (j c : ℕ) (ok : Bool) (ways�
 pub record Settled (ways decided : List ℕ) (j : ℕ) : Type 0 where
   pub settled : cornerAt decided j ≢ 0 → Lone (rowOf ways j) (cornerAt decided j)
 
+-- The same of every site.
 pub record AllSettled (n : ℕ) (ways decided : List ℕ) : Type 0 where
   pub all-settled : (j : ℕ) → j < n → Settled ways decided j
 
 -- The labels of two sites at corner c meet.
 pub record Clash (side : ℕ) (xs ys : List ℕ) (k c j : ℕ) : Type 0 where
   pub different : j ≢ k
-  pub meets : Meet side 1 (placeAt xs ys k) c (placeAt xs ys j) c
+  pub meets : Meet side 1 (siteIn xs ys k) c (siteIn xs ys j) c
 
 -- The decision of site k was carried to site j. Where j is k, nothing is to be done.
 pub record CarriedThere (P : Problem) (ways decided : List ℕ) (k j : ℕ) (ok : Bool) (ways′ decided′ : List ℕ) : Type 0 where
@@ -152,16 +168,16 @@ pub record Marked (decided : List ℕ) (n : ℕ) (marks : List ℕ) : Type 0 whe
 pub record CarriedOn (P : Problem) (ways decided : List ℕ) (ok : Bool) (ways′ decided′ : List ℕ) : Type 0 where
   pub sizes : Sizes ways′ decided′
   pub closed : ok ≡ true → Closed P ways′ decided′
-  pub onward : ok ≡ true → (w d : List ℕ) (i c : ℕ) → i < P .n → c ≢ 0
-      → Onward P w d i c ways decided → Onward P w d i c ways′ decided′
+  pub later : ok ≡ true → (w d : List ℕ) (i c : ℕ) → i < P .n → c ≢ 0
+      → Later P w d i c ways decided → Later P w d i c ways′ decided′
   pub refused : ok ≡ false → (w d : List ℕ) (i c : ℕ) → i < P .n → c ≢ 0
-      → Onward P w d i c ways decided → Refused P w i c
+      → Later P w d i c ways decided → Refused P w i c
 
 -- Corner c of site i was tried. Where that failed, the state is as it was.
 pub record Tried (P : Problem) (ways decided : List ℕ) (i c : ℕ) (ok : Bool) (ways′ decided′ : List ℕ) : Type 0 where
   pub sizes : Sizes ways′ decided′
   pub closed : ok ≡ true → Closed P ways′ decided′
-  pub onward : ok ≡ true → Onward P ways decided i c ways′ decided′
+  pub later : ok ≡ true → Later P ways decided i c ways′ decided′
   pub refused : ok ≡ false → Refused P ways i c
   pub ways-back : ok ≡ false → ways′ ≡ ways
   pub decided-back : ok ≡ false → decided′ ≡ decided

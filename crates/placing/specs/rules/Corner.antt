@@ -1,4 +1,4 @@
--- Document 01, "Corners": numbered as quadrants, each with two directions.
+-- Document 01, "Corners, meeting, crowding": corners are numbered as quadrants, each with a direction along each axis.
 -- Assumes nothing.
 use mathlib.Core.Bool.{Bool, true, false, _||_}
 use Prim.Native.Nat.{ℕ, _≤_}
@@ -6,30 +6,29 @@ use lib.Dec.{eqb}
 use Rattle.placing.specs.declared.corner.Direction.{Direction}
 use Rattle.placing.specs.declared.corner.Directions.{Directions}
 use Rattle.placing.specs.declared.corner.Direction.the-variants.{Up, Down}
+use Rattle.placing.specs.rules.Units.{Axis, X, Y}
 
 -- A corner's number: 1 to 4.
 pub record Corner (c : ℕ) : Type 0 where
   pub least : 1 ≤ c
   pub most : c ≤ 4
 
--- Up where a test says so, else down.
+-- Up the axis where a test says so, else down it.
 abbrev pub upWhere : Bool → Direction
 upWhere true = Up
 upWhere false = Down
 
--- "1 puts the label right and up of its site, 2 left and up, 3 left and down, 4 right and down": corners 1 and 4 go up
--- the axis x (to the right), corners 1 and 2 go up the axis y.
-abbrev pub alongX : ℕ → Direction
-alongX c = upWhere (eqb c 1 || eqb c 4)
-
-abbrev pub alongY : ℕ → Direction
-alongY c = upWhere (eqb c 1 || eqb c 2)
+-- The direction of the label at a corner along an axis. "1 puts the label right and up of its site, 2 left and up, 3 left and down, 4
+-- right and down." No rule asks it of a number that is no corner.
+abbrev pub toward : Axis → ℕ → Direction
+toward X c = upWhere (eqb c 1 || eqb c 4)
+toward Y c = upWhere (eqb c 1 || eqb c 2)
 
 -- The other direction.
 abbrev pub opposite : Direction → Direction
 opposite Up = Down
 opposite Down = Up
 
--- What the constant table holds for a corner.
+-- "A constant table holds each corner's two directions."
 abbrev pub directionsOf : ℕ → Directions
-directionsOf c = record { x = alongX c; y = alongY c }
+directionsOf c = record { x = toward X c; y = toward Y c }

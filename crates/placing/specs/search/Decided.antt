@@ -9,7 +9,7 @@ use native.Mathlib.Decide.{decLt}
 use native.Mathlib.Omega.{arith}
 use lib.ListN.{length, take}
 use lib.Seq.{length-take-le, getD-take}
-use Rattle.placing.specs.rules.Corners.{cornerAt, Before, lower, later}
+use Rattle.placing.specs.rules.Choice.{cornerAt, Before, lower, later}
 use Rattle.placing.specs.search.Problem.{Problem, Solution}
 use Rattle.placing.specs.search.Rows.{rowOf}
 use Rattle.placing.specs.search.State.{Follows, Greater, Walked}
@@ -21,13 +21,13 @@ greater-later {c} {i} {es} {cs} g =
     record { at = suc (g .at); below = suc-le-suc (g .below); same = same; greater = g .greater }
   where
     same : (m : ℕ) → m < suc (g .at) → cornerAt (c ∷ cs) m ≡ cornerAt (c ∷ es) m
-    same zero h = refl
-    same (suc m) h = g .same m (le-of-suc-le-suc h)
+    same zero earlier = refl
+    same (suc m) earlier = g .same m (le-of-suc-le-suc earlier)
 
 -- Of two lists the one that comes after has the greater corner at the first site where they differ.
 before-greater : {es cs : List ℕ} → Before es cs → Greater es (length cs) cs
-before-greater (lower h) =
-    record { at = 0; below = suc-le-suc zero-le; same = λ m none. absurd (not-suc-le-zero none); greater = h }
+before-greater (lower less) =
+    record { at = 0; below = suc-le-suc zero-le; same = λ m none. absurd (not-suc-le-zero none); greater = less }
 before-greater (later b) = greater-later (before-greater b)
 
 -- Of two lists at most one has the greater corner there.
@@ -46,18 +46,19 @@ module _ {P : Problem} {ways decided : List ℕ} (walked : Walked P (P .n) ways 
   decision : (i : ℕ) → i < P .n → cornerAt (take (P .n) decided) i ≡ cornerAt decided i
   decision i listed = getD-take (P .n) decided i 0 listed
 
+  -- It is open.
   is-open : (i : ℕ) → i < P .n → rowOf ways i (cornerAt decided i) ≡ 1
-  is-open i h = walked .closed .decided-open i h (walked .all-decided i h h)
+  is-open i listed = walked .closed .decided-open i listed (walked .all-decided i listed listed)
 
   -- The decisions of the n sites are a solution ..
   pub walk-solution : Solution P (take (P .n) decided)
   walk-solution =
       record {
         one-each = length-take-le (P .n) decided room;
-        candidate = λ i h. rw (decision i h) (walked .closed .candidate i (cornerAt decided i) h (is-open i h));
-        apart = λ i j h l different.
-            rw (decision i h, decision j l)
-            (walked .closed .apart i j (cornerAt decided j) h l different (walked .all-decided i h h) (is-open j l));
+        candidate = λ i listed. rw (decision i listed) (walked .closed .candidate i (cornerAt decided i) listed (is-open i listed));
+        apart = λ i j listed other different.
+            rw (decision i listed, decision j other)
+            (walked .closed .apart i j (cornerAt decided j) listed other different (walked .all-decided i listed listed) (is-open j other));
       }
 
   -- .. and no solution comes before it: each has the decided corners, or the greater one at the first site where it differs.
@@ -69,7 +70,7 @@ module _ {P : Problem} {ways decided : List ℕ} (walked : Walked P (P .n) ways 
       (walked .first es solution)
     where
       same : Follows P ways es → (m : ℕ) → m < P .n → cornerAt es m ≡ cornerAt decided m
-      same follows m h = follows-decided (walked .closed) follows m h (walked .all-decided m h h)
+      same follows m listed = follows-decided (walked .closed) follows m listed (walked .all-decided m listed listed)
 
       above : Greater es (P .n) decided
       above =
@@ -78,6 +79,6 @@ module _ {P : Problem} {ways decided : List ℕ} (walked : Walked P (P .n) ways 
           record {
             at = g .at;
             below = listed;
-            same = λ m h. sym (decision m (omega arith)) ∙ g .same m h;
+            same = λ m earlier. sym (decision m (omega arith)) ∙ g .same m earlier;
             greater = rw (decision (g .at) listed) at (g .greater);
           }

@@ -2,12 +2,12 @@
 -- Assumes nothing.
 use mathlib.Core.Path.{_≡_, refl, sym, ap}
 use mathlib.Core.List.{List, [], _∷_}
-use mathlib.Core.Logic.{_≢_, _⊎_, inl, inr}
+use mathlib.Core.Logic.{_≢_, Ne·symm, _⊎_, inl, inr}
 use Prim.Native.Nat.{ℕ, zero, suc, _<_, zero-le, suc-le-suc}
 use native.Mathlib.Nat.{le-of-suc-le-suc, not-suc-le-zero}
 use native.Mathlib.Decide.{ℕ-discrete}
 use lib.ListN.{length}
-use Rattle.placing.specs.rules.Corners.{cornerAt}
+use Rattle.placing.specs.rules.Choice.{cornerAt}
 use Rattle.placing.specs.search.Problem.{Problem, Solution, Dead}
 use Rattle.placing.specs.search.Rows.{rowOf}
 use Rattle.placing.specs.search.State.{TwoOpen, ClosedBy, Closed, Follows}
@@ -24,8 +24,8 @@ record Keeps (P : Problem) (ways cs : List ℕ) (i c : ℕ) : Type 0 where
 -- What holds of a first corner, and of the others for the sites after the first, holds of all.
 first-and-others : (Q : ℕ → ℕ → Type 0) {n : ℕ} (c : ℕ) (cs : List ℕ) → Q 0 c → ((i : ℕ) → i < n → Q (suc i) (cornerAt cs i))
     → (i : ℕ) → i < suc n → Q i (cornerAt (c ∷ cs) i)
-first-and-others Q c cs first others zero h = first
-first-and-others Q c cs first others (suc i) h = others i (le-of-suc-le-suc h)
+first-and-others Q c cs first others zero listed = first
+first-and-others Q c cs first others (suc i) listed = others i (le-of-suc-le-suc listed)
 
 -- Where each site below n has a corner of some kind, there is a list of n such corners.
 choice : {Q : ℕ → ℕ → Type 0} (n : ℕ) → ((i : ℕ) → i < n → (c : ℕ) × Q i c)
@@ -33,7 +33,7 @@ choice : {Q : ℕ → ℕ → Type 0} (n : ℕ) → ((i : ℕ) → i < n → (c 
 choice zero has = ([], refl, λ i none. absurd (not-suc-le-zero none))
 choice {Q} (suc n) has =
     let (c, first) = has 0 (suc-le-suc zero-le) in
-    let (cs, count, others) = choice {Q = λ i. Q (suc i)} n (λ i h. has (suc i) (suc-le-suc h)) in
+    let (cs, count, others) = choice {Q = λ i. Q (suc i)} n (λ i listed. has (suc i) (suc-le-suc listed)) in
     (c ∷ cs, ap suc count, first-and-others Q c cs first others)
 
 module _ {P : Problem} {ways decided cs : List ℕ} (closed : Closed P ways decided) (solution : Solution P cs) where
@@ -46,44 +46,47 @@ module _ {P : Problem} {ways decided cs : List ℕ} (closed : Closed P ways deci
 
   -- A dead corner is safe.
   dead-safe : {i c : ℕ} → Dead (P .n) (P .Candidate) (P .Conflict) i c → Safe P ways i c
-  dead-safe dead = record { meets-no-open = λ j e h d o. dead .meets-nothing j e h d (closed .candidate j e h o) }
+  dead-safe dead =
+      record { meets-no-open = λ j e listed different o. dead .meets-nothing j e listed different (closed .candidate j e listed o) }
 
   -- A decided corner is safe.
   decided-safe : (i : ℕ) → i < P .n → cornerAt decided i ≢ 0 → Safe P ways i (cornerAt decided i)
-  decided-safe i h d = record { meets-no-open = λ j e l different o. closed .apart i j e h l (λ p. different (sym p)) d o }
+  decided-safe i listed d =
+      record { meets-no-open = λ j e other different o. closed .apart i j e listed other (Ne·symm different) d o }
 
   -- Where the corner of cs is closed, of two open corners one is dead.
   replaced : (i : ℕ) → i < P .n → cornerAt decided i ≡ 0 → rowOf ways i (cornerAt cs i) ≢ 1 → TwoOpen ways i
       → (c : ℕ) × Keeps P ways cs i c
-  replaced i h u o two =
-      from (P .two-ways i (cornerAt cs i) (two .one) (two .two) h (λ p. o (rw p (two .one-open))) (λ p. o (rw p (two .two-open)))
-      (two .differ) (solution .candidate i h) (closed .candidate i (two .one) h (two .one-open))
-      (closed .candidate i (two .two) h (two .two-open)))
+  replaced i listed u o two =
+      from (P .one-dead i (cornerAt cs i) (two .one) (two .two) listed (λ p. o (rw p (two .one-open))) (λ p. o (rw p (two .two-open)))
+      (two .differ) (solution .candidate i listed) (closed .candidate i (two .one) listed (two .one-open))
+      (closed .candidate i (two .two) listed (two .two-open)))
     where
       from : (Dead (P .n) (P .Candidate) (P .Conflict) i (cornerAt cs i))
           ⊎ ((Dead (P .n) (P .Candidate) (P .Conflict) i (two .one)) ⊎ (Dead (P .n) (P .Candidate) (P .Conflict) i (two .two)))
           → (c : ℕ) × Keeps P ways cs i c
-      from (inl a) = absurd (closed-not-dead i (closed .closed-by i (cornerAt cs i) h u (solution .candidate i h) o) a)
+      from (inl a) = absurd (closed-not-dead i (closed .closed-by i (cornerAt cs i) listed u (solution .candidate i listed) o) a)
       from (inr (inl b)) = (two .one, record { is-open = two .one-open; same-or-safe = inr (dead-safe b) })
       from (inr (inr c)) = (two .two, record { is-open = two .two-open; same-or-safe = inr (dead-safe c) })
 
   -- Every site has a corner that can stand.
   kept : (i : ℕ) → i < P .n → (c : ℕ) × Keeps P ways cs i c
-  kept i h = from (ℕ-discrete (cornerAt decided i) 0) (ℕ-discrete (rowOf ways i (cornerAt cs i)) 1)
+  kept i listed = from (ℕ-discrete (cornerAt decided i) 0) (ℕ-discrete (rowOf ways i (cornerAt cs i)) 1)
     where
       from : Dec (cornerAt decided i ≡ 0) → Dec (rowOf ways i (cornerAt cs i) ≡ 1) → (c : ℕ) × Keeps P ways cs i c
-      from (no d) o = (cornerAt decided i, record { is-open = closed .decided-open i h d; same-or-safe = inr (decided-safe i h d) })
+      from (no d) o =
+          (cornerAt decided i, record { is-open = closed .decided-open i listed d; same-or-safe = inr (decided-safe i listed d) })
       from (yes u) (yes o) = (cornerAt cs i, record { is-open = o; same-or-safe = inl refl })
-      from (yes u) (no o) = replaced i h u o (closed .two-left i (cornerAt cs i) h u (solution .candidate i h) o)
+      from (yes u) (no o) = replaced i listed u o (closed .two-left i (cornerAt cs i) listed u (solution .candidate i listed) o)
 
   -- Two corners that can stand at different sites are not in conflict.
   kept-apart : {i c j e : ℕ} → i < P .n → j < P .n → i ≢ j → Keeps P ways cs i c → Keeps P ways cs j e → P .Conflict i c j e → ⊥
-  kept-apart {i} {c} {j} {e} h l different k m conflict = from (k .same-or-safe) (m .same-or-safe)
+  kept-apart {i} {c} {j} {e} listed other different k m conflict = from (k .same-or-safe) (m .same-or-safe)
     where
       from : (c ≡ cornerAt cs i) ⊎ Safe P ways i c → (e ≡ cornerAt cs j) ⊎ Safe P ways j e → ⊥
-      from (inr s) t = s .meets-no-open j e l (λ p. different (sym p)) (m .is-open) conflict
-      from (inl p) (inr t) = t .meets-no-open i c h different (k .is-open) (P .symmetric i c j e conflict)
-      from (inl p) (inl q) = solution .apart i j h l different (rw (← p, ← q) conflict)
+      from (inr s) t = s .meets-no-open j e other (λ p. different (sym p)) (m .is-open) conflict
+      from (inl p) (inr t) = t .meets-no-open i c listed different (k .is-open) (P .symmetric i c j e conflict)
+      from (inl p) (inl q) = solution .apart i j listed other different (rw (← p, ← q) conflict)
 
   -- Where a solution exists, one follows the closed state.
   pub extends : (es : List ℕ) × Solution P es × Follows P ways es
@@ -92,8 +95,8 @@ module _ {P : Problem} {ways decided cs : List ℕ} (closed : Closed P ways deci
         es,
         record {
           one-each = count;
-          candidate = λ i h. closed .candidate i (cornerAt es i) h (keeps i h .is-open);
-          apart = λ i j h l different. kept-apart h l different (keeps i h) (keeps j l);
+          candidate = λ i listed. closed .candidate i (cornerAt es i) listed (keeps i listed .is-open);
+          apart = λ i j listed other different. kept-apart listed other different (keeps i listed) (keeps j other);
         },
-        record { follows = λ j h. keeps j h .is-open },
+        record { follows = λ j listed. keeps j listed .is-open },
       )

@@ -1,5 +1,5 @@
 -- The choice of one corner for each site, freed of geometry: candidates, a conflict between candidates of different sites,
--- and the two-way fact, that of three different candidates of a site one is in conflict with nothing.
+-- and that of three different candidates of a site one is in conflict with nothing.
 -- Assumes nothing.
 use mathlib.Core.Path.{_≡_}
 use mathlib.Core.List.{List}
@@ -7,7 +7,7 @@ use mathlib.Core.Logic.{_≢_, _⊎_}
 use Prim.Native.Nat.{ℕ, _<_}
 use lib.ListN.{length}
 use Rattle.placing.specs.rules.Corner.{Corner}
-use Rattle.placing.specs.rules.Corners.{cornerAt}
+use Rattle.placing.specs.rules.Choice.{cornerAt}
 
 -- Candidate c of site i conflicts with no candidate of another site. A candidate that is not dead is live.
 pub record Dead (n : ℕ) (Candidate : ℕ → ℕ → Type 0) (Conflict : ℕ → ℕ → ℕ → ℕ → Type 0) (i c : ℕ) : Type 0 where
@@ -21,7 +21,7 @@ pub record Problem : Type 1 where
   pub Conflict : ℕ → ℕ → ℕ → ℕ → Type 0
   pub corner : (i c : ℕ) → Candidate i c → Corner c
   pub symmetric : (i c j e : ℕ) → Conflict i c j e → Conflict j e i c
-  pub two-ways : (i a b c : ℕ) → i < n → a ≢ b → a ≢ c → b ≢ c → Candidate i a → Candidate i b → Candidate i c
+  pub one-dead : (i a b c : ℕ) → i < n → a ≢ b → a ≢ c → b ≢ c → Candidate i a → Candidate i b → Candidate i c
       → Dead n Candidate Conflict i a ⊎ (Dead n Candidate Conflict i b ⊎ Dead n Candidate Conflict i c)
 
 -- A full choice, as a list of corners: a candidate for every site, no two in conflict.

@@ -1,26 +1,24 @@
 -- The open corners of all sites as one list of bytes, four for each site: reading the byte of a corner, and what writing one does.
 -- Assumes nothing.
 use mathlib.Core.Path.{_≡_, refl, ap, _∙_, fun-ext}
+use mathlib.Core.Bool.{Bool, true, false, cond}
 use mathlib.Core.List.{List}
 use mathlib.Core.Logic.{_≢_}
-use Prim.Native.Nat.{ℕ, zero, suc, _+_, _-_, _*_, _≤_, _<_}
+use Prim.Native.Nat.{ℕ, _+_, _-_, _*_, _<_}
 use native.Mathlib.Omega.{arith}
 use lib.ListN.{length, getD, set}
 use lib.Seq.{getD-set-same, getD-set-other}
 use Rattle.placing.specs.rules.Corner.{Corner}
+use Rattle.placing.specs.deciding.Decides.{holds-yes}
+use Rattle.placing.specs.deciding.Tests.{cornerTest, corner-decides}
 
--- Of four bytes, the one for corner c; 0 where c is no corner.
-abbrev pub rowAt : ℕ → ℕ → ℕ → ℕ → ℕ → ℕ
-rowAt a b c d zero = 0
-rowAt a b c d (suc zero) = a
-rowAt a b c d (suc (suc zero)) = b
-rowAt a b c d (suc (suc (suc zero))) = c
-rowAt a b c d (suc (suc (suc (suc zero)))) = d
-rowAt a b c d (suc (suc (suc (suc (suc e))))) = 0
+-- Where a list with a place for each corner of each site has that of corner c of site i.
+abbrev pub wayOf : ℕ → ℕ → ℕ
+wayOf i c = 4 * i + (c - 1)
 
--- The four bytes of site i, by corner.
+-- The byte of corner c of site i; 0 where c is no corner.
 unfoldable pub rowOf : List ℕ → ℕ → ℕ → ℕ
-rowOf ways i = rowAt (getD ways (4 * i) 0) (getD ways (4 * i + 1) 0) (getD ways (4 * i + 2) 0) (getD ways (4 * i + 3) 0)
+rowOf ways i c = cond (cornerTest c) (getD ways (wayOf i c) 0) 0
 
 -- No site has a corner 0.
 pub row-zero : (ways : List ℕ) (i : ℕ) → rowOf ways i 0 ≡ 0
@@ -28,36 +26,42 @@ unfolding rowOf
 row-zero ways i = refl
 
 -- Where a corner's byte stands.
-pub row-at : (ways : List ℕ) (i c : ℕ) → Corner c → rowOf ways i c ≡ getD ways (4 * i + (c - 1)) 0
+pub row-at : (ways : List ℕ) (i c : ℕ) → Corner c → rowOf ways i c ≡ getD ways (wayOf i c) 0
 unfolding rowOf
-row-at ways i zero corner = absurd (omega arith)
-row-at ways i (suc zero) corner = ap (λ n. getD ways n 0) (omega arith)
-row-at ways i (suc (suc zero)) corner = refl
-row-at ways i (suc (suc (suc zero))) corner = refl
-row-at ways i (suc (suc (suc (suc zero)))) corner = refl
-row-at ways i (suc (suc (suc (suc (suc c))))) corner = absurd (omega arith)
+row-at ways i c corner = rw (holds-yes (corner-decides c) corner)
 
--- A byte that is written stands at its corner.
-pub row-written : (ways : List ℕ) (i c v : ℕ) → Corner c → 4 * i + (c - 1) < length ways
-    → rowOf (set ways (4 * i + (c - 1)) v) i c ≡ v
-row-written ways i c v corner fits =
-    row-at (set ways (4 * i + (c - 1)) v) i c corner ∙ getD-set-same ways (4 * i + (c - 1)) v 0 fits
+-- The byte of corner e + 1.
+pub row-next : (ways : List ℕ) (i e : ℕ) → e < 4 → rowOf ways i (e + 1) ≡ getD ways (4 * i + e) 0
+row-next ways i e corner = row-at ways i (e + 1) (omega arith) ∙ ap (λ k. getD ways k 0) (omega arith)
 
--- A byte that is written elsewhere leaves a corner as it is.
-row-other : (ways : List ℕ) (n v i e : ℕ) → (Corner e → 4 * i + (e - 1) ≢ n) → rowOf (set ways n v) i e ≡ rowOf ways i e
+-- What is open is a corner.
+pub open-corner : (ways : List ℕ) (i c : ℕ) → rowOf ways i c ≡ 1 → Corner c
 unfolding rowOf
-row-other ways n v i zero other = refl
-row-other ways n v i (suc zero) other = getD-set-other ways n (4 * i) v 0 (λ p. other (omega arith) (omega arith))
-row-other ways n v i (suc (suc zero)) other = getD-set-other ways n (4 * i + 1) v 0 (λ p. other (omega arith) p)
-row-other ways n v i (suc (suc (suc zero))) other = getD-set-other ways n (4 * i + 2) v 0 (λ p. other (omega arith) p)
-row-other ways n v i (suc (suc (suc (suc zero)))) other = getD-set-other ways n (4 * i + 3) v 0 (λ p. other (omega arith) p)
-row-other ways n v i (suc (suc (suc (suc (suc e))))) other = refl
+open-corner ways i c is-open = corner-decides c .yes-holds (tested (cornerTest c) is-open)
+  where
+    tested : (test : Bool) → cond test (getD ways (wayOf i c) 0) 0 ≡ 1 → test ≡ true
+    tested true one = refl
+    tested false one = absurd (omega arith)
 
--- A byte that is written at one corner leaves the site's others as they are.
-pub row-kept : (ways : List ℕ) (i c v e : ℕ) → Corner c → e ≢ c → rowOf (set ways (4 * i + (c - 1)) v) i e ≡ rowOf ways i e
-row-kept ways i c v e corner different = row-other ways (4 * i + (c - 1)) v i e (λ there same. different (omega arith))
+-- Equal bytes make equal rows.
+pub row-same : (ways ways′ : List ℕ) (i c : ℕ) → (Corner c → getD ways′ (wayOf i c) 0 ≡ getD ways (wayOf i c) 0)
+    → rowOf ways′ i c ≡ rowOf ways i c
+unfolding rowOf
+row-same ways ways′ i c same = tested (cornerTest c) (λ is-corner. same (corner-decides c .yes-holds is-corner))
+  where
+    tested : {a b : ℕ} (test : Bool) → (test ≡ true → a ≡ b) → cond test a 0 ≡ cond test b 0
+    tested true equal = equal refl
+    tested false equal = refl
 
--- A byte that is written at site i leaves other sites as they are.
-pub row-elsewhere : (ways : List ℕ) (i n v j : ℕ) → 4 * i ≤ n → n ≤ 4 * i + 3 → j ≢ i → rowOf (set ways n v) j ≡ rowOf ways j
-row-elsewhere ways i n v j from to different =
-    fun-ext (λ e. row-other ways n v j e (λ corner same. different (omega arith)))
+module _ (ways : List ℕ) (i c v : ℕ) (corner : Corner c) where
+  -- A byte that is written stands at its corner,
+  pub row-written : wayOf i c < length ways → rowOf (set ways (wayOf i c) v) i c ≡ v
+  row-written fits = row-at (set ways (wayOf i c) v) i c corner ∙ getD-set-same ways (wayOf i c) v 0 fits
+
+  -- and leaves the site's other corners as they are,
+  pub row-kept : (e : ℕ) → e ≢ c → rowOf (set ways (wayOf i c) v) i e ≡ rowOf ways i e
+  row-kept e different = row-same ways _ i e (λ there. getD-set-other ways (wayOf i c) (wayOf i e) v 0 (omega arith))
+
+  -- and the other sites.
+  pub row-elsewhere : (j : ℕ) → j ≢ i → rowOf (set ways (wayOf i c) v) j ≡ rowOf ways j
+  row-elsewhere j different = fun-ext (λ e. row-same ways _ j e (λ there. getD-set-other ways (wayOf i c) (wayOf j e) v 0 (omega arith)))

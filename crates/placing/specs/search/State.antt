@@ -5,7 +5,7 @@ use mathlib.Core.Path.{_≡_}
 use mathlib.Core.List.{List}
 use mathlib.Core.Logic.{_≢_, _⊎_}
 use Prim.Native.Nat.{ℕ, _<_}
-use Rattle.placing.specs.rules.Corners.{cornerAt}
+use Rattle.placing.specs.rules.Choice.{cornerAt}
 use Rattle.placing.specs.search.Problem.{Problem, Solution}
 use Rattle.placing.specs.search.Rows.{rowOf}
 
@@ -88,7 +88,7 @@ pub record Stuck (P : Problem) (ways decided : List ℕ) (k : ℕ) : Type 0 wher
 
 -- A later state of a search: decisions stay, and a solution that follows the earlier state and has corner c at site i
 -- follows the later one.
-pub record Onward (P : Problem) (ways decided : List ℕ) (i c : ℕ) (ways′ decided′ : List ℕ) : Type 0 where
+pub record Later (P : Problem) (ways decided : List ℕ) (i c : ℕ) (ways′ decided′ : List ℕ) : Type 0 where
   pub takes : cornerAt decided′ i ≡ c
   pub stays : (j : ℕ) → j < P .n → cornerAt decided j ≢ 0 → cornerAt decided′ j ≡ cornerAt decided j
   pub follows : (cs : List ℕ) → Solution P cs → Follows P ways cs → cornerAt cs i ≡ c → Follows P ways′ cs

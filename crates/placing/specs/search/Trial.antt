@@ -8,7 +8,7 @@ use Prim.Native.Nat.{ℕ, _<_}
 use native.Mathlib.Decide.{ℕ-discrete}
 use native.Mathlib.Omega.{arith}
 use Rattle.placing.specs.rules.Corner.{Corner}
-use Rattle.placing.specs.rules.Corners.{cornerAt}
+use Rattle.placing.specs.rules.Choice.{cornerAt}
 use Rattle.placing.specs.search.Problem.{Problem, Solution}
 use Rattle.placing.specs.search.Rows.{rowOf}
 use Rattle.placing.specs.search.State.{
@@ -21,7 +21,7 @@ use Rattle.placing.specs.search.State.{
   Took,
   Carried,
   Stuck,
-  Onward,
+  Later,
 }
 
 -- A corner's number is not 0.
@@ -47,11 +47,11 @@ module _ {P : Problem} {ways ways′ decided decided′ : List ℕ} {i c : ℕ}
     (took : Took P ways decided i c ways′ decided′) where
   -- Taking a corner opens none.
   took-closes : (j e : ℕ) → j < P .n → rowOf ways′ j e ≡ 1 → rowOf ways j e ≡ 1
-  took-closes j e h o = from (ℕ-discrete j i)
+  took-closes j e below o = from (ℕ-discrete j i)
     where
       from : Dec (j ≡ i) → rowOf ways j e ≡ 1
       from (yes p) = ap (rowOf ways j) (took .alone e (rw p at o)) ∙ rw p is-open
-      from (no d) = sym (took .others-open j e h d) ∙ o
+      from (no d) = sym (took .others-open j e below d) ∙ o
 
   -- A site decided before is another site.
   took-other : (j : ℕ) → cornerAt decided j ≢ 0 → j ≢ i
@@ -59,7 +59,7 @@ module _ {P : Problem} {ways ways′ decided decided′ : List ℕ} {i c : ℕ}
 
   -- Taking a corner leaves the decisions before it.
   took-stays : (j : ℕ) → j < P .n → cornerAt decided j ≢ 0 → cornerAt decided′ j ≡ cornerAt decided j
-  took-stays j h d = took .others-decided j h (took-other j d)
+  took-stays j below d = took .others-decided j below (took-other j d)
 
   -- Site i is decided: a candidate's number is not 0.
   taken-decided : cornerAt decided′ i ≢ 0
@@ -73,75 +73,76 @@ module _ {P : Problem} {ways ways′ decided decided′ : List ℕ} {i c : ℕ}
   pub trial-begins : {Done : ℕ → Type 0} → ((j : ℕ) → j < P .n → Done j → cornerAt decided j ≢ 0) → Underway P ways′ decided′ Done
   trial-begins before =
       record {
-        candidate = λ j e h o. closed .candidate j e h (took-closes j e h o);
-        decided-open = λ j h d. decided-open j h d (ℕ-discrete j i);
-        decided-alone = λ j e h d o. decided-alone j e h d o (ℕ-discrete j i);
-        closed-by = λ j e h u candidate shut.
-            closed-by-stays took-stays (closed .closed-by j e h (was-undecided j h u) candidate (was-shut j e h u shut));
-        two-left = λ j e h u candidate shut.
-            two-left j h (took-undecided j u) (closed .two-left j e h (was-undecided j h u) candidate (was-shut j e h u shut));
-        done-decided = λ j h done. rw (took-stays j h (before j h done)) (before j h done);
-        apart = λ j k e h l different done o conflict.
-            closed .apart j k e h l different (before j h done) (took-closes k e l o)
-            (rw (took-stays j h (before j h done)) at conflict);
+        candidate = λ j e below o. closed .candidate j e below (took-closes j e below o);
+        decided-open = λ j below d. decided-open j below d (ℕ-discrete j i);
+        decided-alone = λ j e below d o. decided-alone j e below d o (ℕ-discrete j i);
+        closed-by = λ j e below u candidate shut.
+            closed-by-stays took-stays (closed .closed-by j e below (was-undecided j below u) candidate (was-shut j e below u shut));
+        two-left = λ j e below u candidate shut.
+            two-left j below (took-undecided j u)
+            (closed .two-left j e below (was-undecided j below u) candidate (was-shut j e below u shut));
+        done-decided = λ j below done. rw (took-stays j below (before j below done)) (before j below done);
+        apart = λ j k e below other different done o conflict.
+            closed .apart j k e below other different (before j below done) (took-closes k e other o)
+            (rw (took-stays j below (before j below done)) at conflict);
       }
     where
       was-undecided : (j : ℕ) → j < P .n → cornerAt decided′ j ≡ 0 → cornerAt decided j ≡ 0
-      was-undecided j h u = sym (took .others-decided j h (took-undecided j u)) ∙ u
+      was-undecided j below u = sym (took .others-decided j below (took-undecided j u)) ∙ u
 
       was-shut : (j e : ℕ) → j < P .n → cornerAt decided′ j ≡ 0 → rowOf ways′ j e ≢ 1 → rowOf ways j e ≢ 1
-      was-shut j e h u shut o = shut (took .others-open j e h (took-undecided j u) ∙ o)
+      was-shut j e below u shut o = shut (took .others-open j e below (took-undecided j u) ∙ o)
 
       decided-open : (j : ℕ) → j < P .n → cornerAt decided′ j ≢ 0 → Dec (j ≡ i) → rowOf ways′ j (cornerAt decided′ j) ≡ 1
-      decided-open j h d (yes p) = rw (p, took .takes) (took .is-open)
-      decided-open j h d (no n) =
-          let same = took .others-decided j h n in
-          ap (rowOf ways′ j) same ∙ took .others-open j (cornerAt decided j) h n ∙ closed .decided-open j h (rw same at d)
+      decided-open j below d (yes p) = rw (p, took .takes) (took .is-open)
+      decided-open j below d (no n) =
+          let same = took .others-decided j below n in
+          ap (rowOf ways′ j) same ∙ took .others-open j (cornerAt decided j) below n ∙ closed .decided-open j below (rw same at d)
 
       decided-alone : (j e : ℕ) → j < P .n → cornerAt decided′ j ≢ 0 → rowOf ways′ j e ≡ 1 → Dec (j ≡ i) → e ≡ cornerAt decided′ j
-      decided-alone j e h d o (yes p) = took .alone e (rw p at o) ∙ sym (ap (cornerAt decided′) p ∙ took .takes)
-      decided-alone j e h d o (no n) =
-          let same = took .others-decided j h n in
-          closed .decided-alone j e h (rw same at d) (sym (took .others-open j e h n) ∙ o) ∙ sym same
+      decided-alone j e below d o (yes p) = took .alone e (rw p at o) ∙ sym (ap (cornerAt decided′) p ∙ took .takes)
+      decided-alone j e below d o (no n) =
+          let same = took .others-decided j below n in
+          closed .decided-alone j e below (rw same at d) (sym (took .others-open j e below n) ∙ o) ∙ sym same
 
       two-left : (j : ℕ) → j < P .n → j ≢ i → TwoOpen ways j → TwoOpen ways′ j
-      two-left j h n two =
+      two-left j below n two =
           record {
             one = two .one;
             two = two .two;
             differ = two .differ;
-            one-open = took .others-open j (two .one) h n ∙ two .one-open;
-            two-open = took .others-open j (two .two) h n ∙ two .two-open;
+            one-open = took .others-open j (two .one) below n ∙ two .one-open;
+            two-open = took .others-open j (two .two) below n ∙ two .two-open;
           }
 
   -- A solution that follows the closed state and has corner c at site i follows the trial's start.
-  pub trial-onward-start : Onward P ways decided i c ways′ decided′
-  trial-onward-start =
+  pub trial-later-start : Later P ways decided i c ways′ decided′
+  trial-later-start =
       record {
         takes = took .takes;
         stays = took-stays;
-        follows = λ cs solution follows takes. record { follows = λ j h. follow cs follows takes j h (ℕ-discrete j i) };
+        follows = λ cs solution follows takes. record { follows = λ j below. follow cs follows takes j below (ℕ-discrete j i) };
       }
     where
       follow : (cs : List ℕ) → Follows P ways cs → cornerAt cs i ≡ c → (j : ℕ) → j < P .n → Dec (j ≡ i)
           → rowOf ways′ j (cornerAt cs j) ≡ 1
-      follow cs follows takes j h (yes p) = rw (p, takes) (took .is-open)
-      follow cs follows takes j h (no n) = took .others-open j (cornerAt cs j) h n ∙ follows .follows j h
+      follow cs follows takes j below (yes p) = rw (p, takes) (took .is-open)
+      follow cs follows takes j below (no n) = took .others-open j (cornerAt cs j) below n ∙ follows .follows j below
 
 module _ {P : Problem} {ways decided : List ℕ} {Done : ℕ → Type 0} {k : ℕ}
     (underway : Underway P ways decided Done) (listed : k < P .n) (is-decided : cornerAt decided k ≢ 0) where
   -- A solution that follows the state has the decided corner at site k, so no other corner of it conflicts with that one.
   decided-apart : (cs : List ℕ) → Solution P cs → Follows P ways cs → (j : ℕ) → j < P .n → j ≢ k
       → P .Conflict k (cornerAt decided k) j (cornerAt cs j) → ⊥
-  decided-apart cs solution follows j h different conflict =
-      solution .apart k j listed h (λ p. different (sym p))
+  decided-apart cs solution follows j below different conflict =
+      solution .apart k j listed below (λ p. different (sym p))
       (rw (underway .decided-alone k (cornerAt cs k) listed is-decided (follows .follows k listed)) conflict)
 
   -- A trial that is stuck refuses the corner that it took.
-  pub stuck-refused : {ways₀ decided₀ : List ℕ} {i c : ℕ} → Stuck P ways decided k → Onward P ways₀ decided₀ i c ways decided
+  pub stuck-refused : {ways₀ decided₀ : List ℕ} {i c : ℕ} → Stuck P ways decided k → Later P ways₀ decided₀ i c ways decided
       → Refused P ways₀ i c
-  stuck-refused stuck onward =
-      record { refused = λ cs solution follows takes. refute cs solution (onward .follows cs solution follows takes) }
+  stuck-refused stuck later =
+      record { refused = λ cs solution follows takes. refute cs solution (later .follows cs solution follows takes) }
     where
       refute : (cs : List ℕ) → Solution P cs → Follows P ways cs → ⊥
       refute cs solution follows =
@@ -151,19 +152,19 @@ module _ {P : Problem} {ways decided : List ℕ} {Done : ℕ → Type 0} {k : �
   module _ {ways′ decided′ : List ℕ} (carried : Carried P ways decided k ways′ decided′) where
     -- Carrying out a decision opens no corner.
     carried-closes : (j e : ℕ) → j < P .n → rowOf ways′ j e ≡ 1 → rowOf ways j e ≡ 1
-    carried-closes j e h o = from (ℕ-discrete j k)
+    carried-closes j e below o = from (ℕ-discrete j k)
       where
         from : Dec (j ≡ k) → rowOf ways j e ≡ 1
         from (yes p) = rw p (sym (carried .own-open e) ∙ rw p at o)
-        from (no d) = carried .others j h d .closes e o
+        from (no d) = carried .others j below d .closes e o
 
     -- Carrying out a decision leaves the decisions.
     carried-stays : (j : ℕ) → j < P .n → cornerAt decided j ≢ 0 → cornerAt decided′ j ≡ cornerAt decided j
-    carried-stays j h d = from (ℕ-discrete j k)
+    carried-stays j below d = from (ℕ-discrete j k)
       where
         from : Dec (j ≡ k) → cornerAt decided′ j ≡ cornerAt decided j
         from (yes p) = rw p (carried .own-decided)
-        from (no n) = carried .others j h n .stays-decided d
+        from (no n) = carried .others j below n .stays-decided d
 
     -- An undecided site is not site k.
     undecided-other : (j : ℕ) → cornerAt decided j ≡ 0 → j ≢ k
@@ -171,72 +172,73 @@ module _ {P : Problem} {ways decided : List ℕ} {Done : ℕ → Type 0} {k : �
 
     -- Carrying out a decision leaves decided corners open.
     carried-open : (j : ℕ) → j < P .n → cornerAt decided j ≢ 0 → rowOf ways′ j (cornerAt decided j) ≡ 1
-    carried-open j h d = from (ℕ-discrete j k)
+    carried-open j below d = from (ℕ-discrete j k)
       where
         from : Dec (j ≡ k) → rowOf ways′ j (cornerAt decided j) ≡ 1
         from (yes p) = rw p (carried .own-open (cornerAt decided k) ∙ underway .decided-open k listed is-decided)
-        from (no n) = carried .others j h n .stays-open d
+        from (no n) = carried .others j below n .stays-open d
 
     -- A site that is undecided afterwards was undecided.
     was-undecided : (j : ℕ) → j < P .n → cornerAt decided′ j ≡ 0 → cornerAt decided j ≡ 0
-    was-undecided j h u = from (ℕ-discrete (cornerAt decided j) 0)
+    was-undecided j below u = from (ℕ-discrete (cornerAt decided j) 0)
       where
         from : Dec (cornerAt decided j ≡ 0) → cornerAt decided j ≡ 0
         from (yes p) = p
-        from (no d) = absurd (d (sym (carried-stays j h d) ∙ u))
+        from (no d) = absurd (d (sym (carried-stays j below d) ∙ u))
 
     -- A solution that follows the state follows it after the decision is carried out.
     carried-follows : (cs : List ℕ) → Solution P cs → Follows P ways cs → Follows P ways′ cs
-    carried-follows cs solution follows = record { follows = λ j h. follow j h (ℕ-discrete j k) }
+    carried-follows cs solution follows = record { follows = λ j below. follow j below (ℕ-discrete j k) }
       where
         follow : (j : ℕ) → j < P .n → Dec (j ≡ k) → rowOf ways′ j (cornerAt cs j) ≡ 1
-        follow j h (yes p) = rw p (carried .own-open (cornerAt cs k) ∙ follows .follows k listed)
-        follow j h (no n) =
-            ⊎-elim (λ o. o) (λ conflict. absurd (decided-apart cs solution follows j h n conflict))
-            (carried .others j h n .keeps (cornerAt cs j) (follows .follows j h))
+        follow j below (yes p) = rw p (carried .own-open (cornerAt cs k) ∙ follows .follows k listed)
+        follow j below (no n) =
+            ⊎-elim (λ o. o) (λ conflict. absurd (decided-apart cs solution follows j below n conflict))
+            (carried .others j below n .keeps (cornerAt cs j) (follows .follows j below))
 
     -- The state after a decision is carried out is still a later state of the search that took c at i.
-    pub carried-onward : {ways₀ decided₀ : List ℕ} {i c : ℕ} → i < P .n → c ≢ 0 → Onward P ways₀ decided₀ i c ways decided
-        → Onward P ways₀ decided₀ i c ways′ decided′
-    carried-onward {i = i} h some onward =
+    pub carried-later : {ways₀ decided₀ : List ℕ} {i c : ℕ} → i < P .n → c ≢ 0 → Later P ways₀ decided₀ i c ways decided
+        → Later P ways₀ decided₀ i c ways′ decided′
+    carried-later {i = i} below some later =
         record {
-          takes = carried-stays i h (rw (onward .takes) some) ∙ onward .takes;
-          stays = λ j l d. carried-stays j l (rw (onward .stays j l d) d) ∙ onward .stays j l d;
-          follows = λ cs solution follows takes. carried-follows cs solution (onward .follows cs solution follows takes);
+          takes = carried-stays i below (rw (later .takes) some) ∙ later .takes;
+          stays = λ j other d. carried-stays j other (rw (later .stays j other d) d) ∙ later .stays j other d;
+          follows = λ cs solution follows takes. carried-follows cs solution (later .follows cs solution follows takes);
         }
 
     -- After the decision of site k is carried out, the trial is under way with site k done too.
     pub carried-underway : {Done′ : ℕ → Type 0} → ((j : ℕ) → j < P .n → j ≢ k → Done′ j → Done j) → Underway P ways′ decided′ Done′
     carried-underway {Done′} others =
         record {
-          candidate = λ j e h o. underway .candidate j e h (carried-closes j e h o);
-          decided-open = λ j h d. decided-open j h d (ℕ-discrete (cornerAt decided j) 0);
-          decided-alone = λ j e h d o. decided-alone j e h d o (ℕ-discrete (cornerAt decided j) 0);
-          closed-by = λ j e h u candidate shut.
-              closed-by j e h (was-undecided j h u) candidate shut (ℕ-discrete (rowOf ways j e) 1);
-          two-left = λ j e h u candidate shut.
-              two-left j e h u (was-undecided j h u) candidate shut (ℕ-discrete (rowOf ways j e) 1);
-          done-decided = λ j h done.
-              rw (carried-stays j h (done-decided j h done (ℕ-discrete j k))) (done-decided j h done (ℕ-discrete j k));
-          apart = λ i j e h l different done o conflict.
-              apart i j e h l different done o
-              (rw (carried-stays i h (done-decided i h done (ℕ-discrete i k))) at conflict) (ℕ-discrete i k);
+          candidate = λ j e below o. underway .candidate j e below (carried-closes j e below o);
+          decided-open = λ j below d. decided-open j below d (ℕ-discrete (cornerAt decided j) 0);
+          decided-alone = λ j e below d o. decided-alone j e below d o (ℕ-discrete (cornerAt decided j) 0);
+          closed-by = λ j e below u candidate shut.
+              closed-by j e below (was-undecided j below u) candidate shut (ℕ-discrete (rowOf ways j e) 1);
+          two-left = λ j e below u candidate shut.
+              two-left j e below u (was-undecided j below u) candidate shut (ℕ-discrete (rowOf ways j e) 1);
+          done-decided = λ j below done.
+              rw (carried-stays j below (done-decided j below done (ℕ-discrete j k))) (done-decided j below done (ℕ-discrete j k));
+          apart = λ i j e below other different done o conflict.
+              apart i j e below other different done o
+              (rw (carried-stays i below (done-decided i below done (ℕ-discrete i k))) at conflict) (ℕ-discrete i k);
         }
       where
         decided-open : (j : ℕ) → j < P .n → cornerAt decided′ j ≢ 0 → Dec (cornerAt decided j ≡ 0)
             → rowOf ways′ j (cornerAt decided′ j) ≡ 1
-        decided-open j h d (yes u) = carried .others j h (undecided-other j u) .decides-open u d
-        decided-open j h d (no n) = ap (rowOf ways′ j) (carried-stays j h n) ∙ carried-open j h n
+        decided-open j below d (yes u) = carried .others j below (undecided-other j u) .decides-open u d
+        decided-open j below d (no n) = ap (rowOf ways′ j) (carried-stays j below n) ∙ carried-open j below n
 
         decided-alone : (j e : ℕ) → j < P .n → cornerAt decided′ j ≢ 0 → rowOf ways′ j e ≡ 1 → Dec (cornerAt decided j ≡ 0)
             → e ≡ cornerAt decided′ j
-        decided-alone j e h d o (yes u) = carried .others j h (undecided-other j u) .decides-alone e u d o
-        decided-alone j e h d o (no n) = underway .decided-alone j e h n (carried-closes j e h o) ∙ sym (carried-stays j h n)
+        decided-alone j e below d o (yes u) = carried .others j below (undecided-other j u) .decides-alone e u d o
+        decided-alone j e below d o (no n) =
+            underway .decided-alone j e below n (carried-closes j e below o) ∙ sym (carried-stays j below n)
 
         closed-by : (j e : ℕ) → j < P .n → cornerAt decided j ≡ 0 → P .Candidate j e → rowOf ways′ j e ≢ 1
             → Dec (rowOf ways j e ≡ 1) → ClosedBy P decided′ j e
-        closed-by j e h u candidate shut (no n) = closed-by-stays carried-stays (underway .closed-by j e h u candidate n)
-        closed-by j e h u candidate shut (yes o) =
+        closed-by j e below u candidate shut (no n) = closed-by-stays carried-stays (underway .closed-by j e below u candidate n)
+        closed-by j e below u candidate shut (yes o) =
             ⊎-elim (λ p. absurd (shut p))
             (λ conflict. record {
               by = k;
@@ -245,32 +247,32 @@ module _ {P : Problem} {ways decided : List ℕ} {Done : ℕ → Type 0} {k : �
               is-decided = rw (carried .own-decided) is-decided;
               conflict = rw (carried .own-decided) conflict;
             })
-            (carried .others j h (undecided-other j u) .keeps e o)
+            (carried .others j below (undecided-other j u) .keeps e o)
 
         two-open : (j : ℕ) → j < P .n → cornerAt decided′ j ≡ 0 → cornerAt decided j ≡ 0 → (two : TwoOpen ways j)
             → Dec (rowOf ways′ j (two .one) ≡ 1) → Dec (rowOf ways′ j (two .two) ≡ 1) → TwoOpen ways′ j
-        two-open j h u w two (yes p) (yes q) =
+        two-open j below u w two (yes p) (yes q) =
             record { one = two .one; two = two .two; differ = two .differ; one-open = p; two-open = q }
-        two-open j h u w two (no p) q = carried .others j h (undecided-other j w) .two-left (two .one) u (two .one-open) p
-        two-open j h u w two (yes p) (no q) = carried .others j h (undecided-other j w) .two-left (two .two) u (two .two-open) q
+        two-open j below u w two (no p) q = carried .others j below (undecided-other j w) .two-left (two .one) u (two .one-open) p
+        two-open j below u w two (yes p) (no q) = carried .others j below (undecided-other j w) .two-left (two .two) u (two .two-open) q
 
         two-left : (j e : ℕ) → j < P .n → cornerAt decided′ j ≡ 0 → cornerAt decided j ≡ 0 → P .Candidate j e → rowOf ways′ j e ≢ 1
             → Dec (rowOf ways j e ≡ 1) → TwoOpen ways′ j
-        two-left j e h u w candidate shut (yes o) = carried .others j h (undecided-other j w) .two-left e u o shut
-        two-left j e h u w candidate shut (no n) =
-            let two = underway .two-left j e h w candidate n in
-            two-open j h u w two (ℕ-discrete (rowOf ways′ j (two .one)) 1) (ℕ-discrete (rowOf ways′ j (two .two)) 1)
+        two-left j e below u w candidate shut (yes o) = carried .others j below (undecided-other j w) .two-left e u o shut
+        two-left j e below u w candidate shut (no n) =
+            let two = underway .two-left j e below w candidate n in
+            two-open j below u w two (ℕ-discrete (rowOf ways′ j (two .one)) 1) (ℕ-discrete (rowOf ways′ j (two .two)) 1)
 
         done-decided : (j : ℕ) → j < P .n → Done′ j → Dec (j ≡ k) → cornerAt decided j ≢ 0
-        done-decided j h done (yes p) = rw p is-decided
-        done-decided j h done (no n) = underway .done-decided j h (others j h n done)
+        done-decided j below done (yes p) = rw p is-decided
+        done-decided j below done (no n) = underway .done-decided j below (others j below n done)
 
         apart : (i j e : ℕ) → i < P .n → j < P .n → i ≢ j → Done′ i → rowOf ways′ j e ≡ 1
             → P .Conflict i (cornerAt decided i) j e → Dec (i ≡ k) → ⊥
-        apart i j e h l different done o conflict (yes p) =
-            carried .others j l (λ q. different (p ∙ sym q)) .apart e o (rw p at conflict)
-        apart i j e h l different done o conflict (no n) =
-            underway .apart i j e h l different (others i h n done) (carried-closes j e l o) conflict
+        apart i j e below other different done o conflict (yes p) =
+            carried .others j other (λ q. different (p ∙ sym q)) .apart e o (rw p at conflict)
+        apart i j e below other different done o conflict (no n) =
+            underway .apart i j e below other different (others i below n done) (carried-closes j e other o) conflict
 
 -- A trial that has carried out every decision leaves a closed state.
 pub trial-closed : {P : Problem} {ways decided : List ℕ} {Done : ℕ → Type 0} → Underway P ways decided Done
@@ -282,6 +284,6 @@ trial-closed underway all =
       decided-alone = underway .decided-alone;
       closed-by = underway .closed-by;
       two-left = underway .two-left;
-      done-decided = λ i h d. d;
-      apart = λ i j e h l different d. underway .apart i j e h l different (all i h d);
+      done-decided = λ i below d. d;
+      apart = λ i j e below other different d. underway .apart i j e below other different (all i below d);
     }

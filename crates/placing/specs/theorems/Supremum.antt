@@ -4,31 +4,29 @@
 -- is such a fraction is not said here.
 -- Assumes nothing.
 use mathlib.Core.List.{List}
-use mathlib.Core.Logic.{_≢_, _↔_}
+use mathlib.Core.Logic.{_≢_, _↔_, _⊎_, inl, inr}
 use Prim.Native.Nat.{ℕ, _+_, _-_, _*_, _≤_, _<_}
 use native.Mathlib.Nat.{mul-le-mul-right, mul-lt-mul-of-pos-right, lt-of-mul-lt-mul-right}
-use native.Mathlib.Decide.{decLe}
+use native.Mathlib.Decide.{decLe, decLt}
 use native.Mathlib.Omega.{arith}
 use lib.ListN.{length}
 use Rattle.placing.specs.declared.units.Place.{Place}
 use Rattle.placing.specs.declared.corner.Direction.{Direction}
-use Rattle.placing.specs.declared.corner.Direction.the-variants.{Up, Down}
-use Rattle.placing.specs.rules.Units.{dist, xOf, yOf, siteAt, Distinct}
-use Rattle.placing.specs.rules.Corner.{alongX, alongY}
-use Rattle.placing.specs.rules.Cover.{Fraction, Point, moved, Covers}
-use Rattle.placing.specs.rules.Meet.{Overlap, Meet}
-use Rattle.placing.specs.theorems.Common.{Within, within-overlap, covers-within, meet-common, common-meet}
-use Rattle.placing.specs.rules.Corners.{cornerAt, Corners}
+use Rattle.placing.specs.rules.Units.{Axis, along, dist, siteAt, Distinct}
+use Rattle.placing.specs.rules.Corner.{toward}
+use Rattle.placing.specs.rules.Label.{Onward, Fraction, Point, moved, Covers, Meet, AtSite, Inside, AtFarEdge}
+use Rattle.placing.specs.rules.Choice.{cornerAt, Corners}
+use Rattle.placing.specs.theorems.Label.{overlap-at}
+use Rattle.placing.specs.theorems.CommonPoint.{Within, within-overlap, covers-within, meet-common, common-meet}
 
 -- From the site's coordinate a in direction d, t lies at 0 or further, and no further than p/q half units.
-abbrev pub Reaches : (p q : ℕ) → Direction → ℕ → Fraction → Type 0
-Reaches p q Up a t = (moved a t ≤ t .plus) × (t .plus * q ≤ p * t .parts + moved a t * q)
-Reaches p q Down a t = (t .plus ≤ moved a t) × (moved a t * q ≤ p * t .parts + t .plus * q)
+pub record UpTo (p q : ℕ) (d : Direction) (a : ℕ) (t : Fraction) : Type 0 where
+  pub onward : Onward d (moved a t) (t .plus)
+  pub near : dist (moved a t) (t .plus) * q ≤ p * t .parts
 
 -- The point lies in the closed square of side p/q at corner c of site s.
-pub record InSquare (p q : ℕ) (s : Place) (c : ℕ) (t : Point) : Type 0 where
-  pub along-x : Reaches p q (alongX c) (xOf s) (t .x)
-  pub along-y : Reaches p q (alongY c) (yOf s) (t .y)
+abbrev pub InSquare : (p q : ℕ) → Place → ℕ → Point → Type 0
+InSquare p q s c t = (axis : Axis) → UpTo p q (toward axis c) (along axis s) (t axis)
 
 -- Regions, one at the chosen corner of each site, are pairwise disjoint.
 pub record Disjoint (Region : Place → ℕ → Point → Type 0) (ps : List Place) (cs : List ℕ) : Type 0 where
@@ -40,6 +38,11 @@ pub record Placeable (Region : Place → ℕ → Point → Type 0) (ps : List Pl
   pub choice : List ℕ
   pub corners : Corners (length ps) choice
   pub disjoint : Disjoint Region ps choice
+
+-- Regions can be placed where others can, if every choice that makes those disjoint makes these so.
+placeable-as : {R S : Place → ℕ → Point → Type 0} {ps : List Place} → ((cs : List ℕ) → Disjoint R ps cs → Disjoint S ps cs)
+    → Placeable R ps → Placeable S ps
+placeable-as carry fit = record { choice = fit .choice; corners = fit .corners; disjoint = carry (fit .choice) (fit .disjoint) }
 
 -- The sides at which labels, and at which closed squares, can be placed pairwise disjoint.
 abbrev pub LabelsFit : List Place → (p q : ℕ) → Type 0
@@ -71,124 +74,75 @@ pub record Supremum (Has : (p q : ℕ) → Type 0) (p q : ℕ) : Type 0 where
   pub bound : UpperBound Has p q
   pub least : (p′ q′ : ℕ) → 1 ≤ q′ → p′ * q < p * q′ → Exceeded Has p′ q′
 
--- What lies within a label along an axis lies in its closed square there.
-within-reaches : (p q : ℕ) (d : Direction) (a : ℕ) (t : Fraction) → Within p q d a t → Reaches p q d a t
-within-reaches p q Up a t within = omega arith
-within-reaches p q Down a t within = omega arith
-
 -- A closed square contains what the label of its side covers.
 pub covers-in-square : {p q : ℕ} {s : Place} {c : ℕ} {point : Point} → 1 ≤ p → Covers p q s c point → InSquare p q s c point
-covers-in-square {p} {q} {s} {c} {point} some covers =
-    let within = covers-within p q some s c point covers in
-    record {
-      along-x = within-reaches p q (alongX c) (xOf s) (point .x) (within .0);
-      along-y = within-reaches p q (alongY c) (yOf s) (point .y) (within .1);
-    }
+covers-in-square some covers axis =
+    let within = covers-within some covers axis in
+    record { onward = within .onward; near = omega (arith, within .near) }
 
 -- The side p′/q′ is below p/q.
 module _ (p q p′ q′ : ℕ) (some-p : 1 ≤ p) (some-q : 1 ≤ q) (some-parts : 1 ≤ q′) (smaller : p′ * q < p * q′) where
-  -- No further than the smaller side is less far than the larger.
-  less-far : (u v : ℕ) (t : Fraction) → u * q′ ≤ p′ * t .parts + v * q′ → u * q < p * t .parts + v * q
-  less-far u v t no-further =
-      let near : u * q′ * q ≤ (p′ * t .parts + v * q′) * q = mul-le-mul-right q no-further in
-      let below : p′ * q * t .parts < p * q′ * t .parts = mul-lt-mul-of-pos-right smaller (t .some-parts) in
-      lt-of-mul-lt-mul-right q′ (omega arith)
-
   -- What lies in the smaller closed square along an axis lies within the larger label there.
-  reaches-within : (d : Direction) (a : ℕ) (t : Fraction) → Reaches p′ q′ d a t → Within p q d a t
-  reaches-within Up a t reaches = (reaches .0, less-far (t .plus) (moved a t) t (reaches .1))
-  reaches-within Down a t reaches = (reaches .0, less-far (moved a t) (t .plus) t (reaches .1))
+  up-to-within : {d : Direction} {a : ℕ} {t : Fraction} → UpTo p′ q′ d a t → Within p q d a t
+  up-to-within {d} {a} {t} up-to = record { onward = up-to .onward; near = less-far (dist (moved a t) (t .plus)) (up-to .near) }
+    where
+      less-far : (x : ℕ) → x * q′ ≤ p′ * t .parts → x * q < p * t .parts
+      less-far x no-further =
+          let near : x * q′ * q ≤ p′ * t .parts * q = mul-le-mul-right q no-further in
+          let below : p′ * q * t .parts < p * q′ * t .parts = mul-lt-mul-of-pos-right smaller (t .some-parts) in
+          lt-of-mul-lt-mul-right q′ (omega arith)
 
   -- Where closed squares have a point in common, labels of a larger side meet.
   pub squares-meet : {s t : Place} {c e : ℕ} {point : Point} → InSquare p′ q′ s c point → InSquare p′ q′ t e point → Meet p q s c t e
-  squares-meet {s} {t} {c} {e} {point} one other =
-      record {
-        along-x =
-            within-overlap p q some-p (alongX c) (alongX e) (xOf s) (xOf t) (point .x)
-            (reaches-within (alongX c) (xOf s) (point .x) (one .along-x)) (reaches-within (alongX e) (xOf t) (point .x) (other .along-x));
-        along-y =
-            within-overlap p q some-p (alongY c) (alongY e) (yOf s) (yOf t) (point .y)
-            (reaches-within (alongY c) (yOf s) (point .y) (one .along-y)) (reaches-within (alongY e) (yOf t) (point .y) (other .along-y));
-      }
+  squares-meet one other axis = within-overlap some-p (up-to-within (one axis)) (up-to-within (other axis))
 
-  -- So where labels are disjoint, closed squares of every smaller side are.
-  labels-squares : {ps : List Place} {cs : List ℕ} → Distinct ps → Disjoint (Covers p q) ps cs → Disjoint (InSquare p′ q′) ps cs
-  labels-squares {ps} {cs} places labels =
+  -- So where labels can be placed, closed squares of every smaller side can.
+  labels-fit-squares : {ps : List Place} → Distinct ps → LabelsFit ps p q → SquaresFit ps p′ q′
+  labels-fit-squares {ps} places =
+      placeable-as (λ cs labels.
       record {
         disjoint = λ i j i-listed j-listed differ point one other.
             let common = meet-common p q some-p some-q (places .distinct i j i-listed j-listed differ) (squares-meet one other) in
             labels .disjoint i j i-listed j-listed differ (common .0) (common .1) (common .2);
-      }
-
-module _ (p q : ℕ) (some-p : 1 ≤ p) (some-q : 1 ≤ q) where
-  -- A length of whole parts below p/q is below a side that is smaller by half a part.
-  below-less : (x : ℕ) → x * q < p → x * (2 * q) < 2 * p - 1
-  below-less x below = omega arith
-
-  -- Labels that overlap do so at a side that is smaller by half a part ..
-  overlap-less : (d e : Direction) (a b : ℕ) → Overlap p q d a e b → Overlap (2 * p - 1) (2 * q) d a e b
-  overlap-less Up Up a b o = below-less (2 * dist a b) o
-  overlap-less Down Down a b o = below-less (2 * dist a b) o
-  overlap-less Up Down a b o = (o .0, below-less (b - a) (o .1))
-  overlap-less Down Up a b o = (o .0, below-less (a - b) (o .1))
-
-  -- .. and labels that meet do.
-  pub meet-less : {s t : Place} {c e : ℕ} → Meet p q s c t e → Meet (2 * p - 1) (2 * q) s c t e
-  meet-less {s} {t} {c} {e} meet =
-      record {
-        along-x = overlap-less (alongX c) (alongX e) (xOf s) (xOf t) (meet .along-x);
-        along-y = overlap-less (alongY c) (alongY e) (yOf s) (yOf t) (meet .along-y);
-      }
-
-  -- So labels are disjoint where the closed squares of that side are.
-  squares-labels : {ps : List Place} {cs : List ℕ} → Distinct ps → Disjoint (InSquare (2 * p - 1) (2 * q)) ps cs → Disjoint (Covers p q) ps cs
-  squares-labels {ps} {cs} places squares =
-      record {
-        disjoint = λ i j i-listed j-listed differ point one other.
-            let meet = meet-less (common-meet p q some-p one other) in
-            let common = meet-common (2 * p - 1) (2 * q) (omega arith) (omega arith) (places .distinct i j i-listed j-listed differ) meet in
-            squares .disjoint i j i-listed j-listed differ (common .0)
-            (covers-in-square (omega arith) (common .1)) (covers-in-square (omega arith) (common .2));
-      }
-
-  -- A side has a choice of disjoint labels exactly when every smaller side has a choice of disjoint closed squares.
-  pub labels-up-to-supremum : {ps : List Place} → Distinct ps
-      → Placeable (Covers p q) ps ↔ ((p′ q′ : ℕ) → 1 ≤ q′ → p′ * q < p * q′ → Placeable (InSquare p′ q′) ps)
-  labels-up-to-supremum {ps} places = (to, from)
-    where
-      to : Placeable (Covers p q) ps → (p′ q′ : ℕ) → 1 ≤ q′ → p′ * q < p * q′ → Placeable (InSquare p′ q′) ps
-      to labels p′ q′ some-parts smaller =
-          record {
-            choice = labels .choice;
-            corners = labels .corners;
-            disjoint = labels-squares p q p′ q′ some-p some-q some-parts smaller places (labels .disjoint);
-          }
-
-      from : ((p′ q′ : ℕ) → 1 ≤ q′ → p′ * q < p * q′ → Placeable (InSquare p′ q′) ps) → Placeable (Covers p q) ps
-      from squares =
-          let square = squares (2 * p - 1) (2 * q) (omega arith) less-by-half in
-          record { choice = square .choice; corners = square .corners; disjoint = squares-labels places (square .disjoint) }
-        where
-          less-by-half : (2 * p - 1) * q < p * (2 * q)
-          less-by-half = let less : (2 * p - 1) * q < 2 * p * q = mul-lt-mul-of-pos-right (omega arith) some-q in omega arith
+      })
 
 -- Labels can be placed where closed squares of their side can.
 squares-fit-labels : {ps : List Place} {p q : ℕ} → 1 ≤ p → SquaresFit ps p q → LabelsFit ps p q
-squares-fit-labels some squares =
+squares-fit-labels some =
+    placeable-as (λ cs squares.
     record {
-      choice = squares .choice;
-      corners = squares .corners;
-      disjoint = record {
-        disjoint = λ i j i-listed j-listed differ point one other.
-            squares .disjoint .disjoint i j i-listed j-listed differ point (covers-in-square some one) (covers-in-square some other);
-      };
-    }
+      disjoint = λ i j i-listed j-listed differ point one other.
+          squares .disjoint i j i-listed j-listed differ point (covers-in-square some one) (covers-in-square some other);
+    })
 
--- Where labels can be placed, closed squares of every smaller side can.
-labels-fit-squares : {ps : List Place} (p q p′ q′ : ℕ) → Distinct ps → 1 ≤ p → 1 ≤ q → 1 ≤ q′ → p′ * q < p * q′ → LabelsFit ps p q
-    → SquaresFit ps p′ q′
-labels-fit-squares p q p′ q′ places some-p some-q some-parts smaller labels =
-    labels-up-to-supremum p q some-p some-q places .0 labels p′ q′ some-parts smaller
+module _ (p q : ℕ) (some-p : 1 ≤ p) (some-q : 1 ≤ q) where
+  -- Labels that meet do so at a side that is smaller by half a part: their lengths are of whole parts.
+  pub meet-less : {s t : Place} {c e : ℕ} → Meet p q s c t e → Meet (2 * p - 1) (2 * q) s c t e
+  meet-less meet axis = overlap-at (λ x bound below. omega arith) (meet axis)
+
+  -- So labels can be placed where closed squares of that side can.
+  squares-less-fit-labels : {ps : List Place} → Distinct ps → SquaresFit ps (2 * p - 1) (2 * q) → LabelsFit ps p q
+  squares-less-fit-labels places =
+      placeable-as (λ cs squares.
+      record {
+        disjoint = λ i j i-listed j-listed differ point one other.
+            let meet = meet-less (common-meet some-p one other) in
+            let common = meet-common (2 * p - 1) (2 * q) (omega arith) (omega arith) (places .distinct i j i-listed j-listed differ) meet in
+            squares .disjoint i j i-listed j-listed differ (common .0)
+            (covers-in-square (omega arith) (common .1)) (covers-in-square (omega arith) (common .2));
+      })
+
+  -- A side has a choice of disjoint labels exactly when every smaller side has a choice of disjoint closed squares.
+  pub labels-up-to-supremum : {ps : List Place} → Distinct ps
+      → LabelsFit ps p q ↔ ((p′ q′ : ℕ) → 1 ≤ q′ → p′ * q < p * q′ → SquaresFit ps p′ q′)
+  labels-up-to-supremum {ps} places =
+      (to, λ squares. squares-less-fit-labels places (squares (2 * p - 1) (2 * q) (omega arith) less-by-half))
+    where
+      to : LabelsFit ps p q → (p′ q′ : ℕ) → 1 ≤ q′ → p′ * q < p * q′ → SquaresFit ps p′ q′
+      to labels p′ q′ some-parts smaller = labels-fit-squares p q p′ q′ some-p some-q some-parts smaller places labels
+
+      less-by-half : (2 * p - 1) * q < p * (2 * q)
+      less-by-half = let less : (2 * p - 1) * q < 2 * p * q = mul-lt-mul-of-pos-right (omega arith) some-q in omega arith
 
 -- Between two fractions lies (p + p′)/(q + q′): the greatest side of labels is the supremum of the sides of closed squares ..
 greatest-to-supremum : {ps : List Place} (p q : ℕ) → Distinct ps → 1 ≤ p → 1 ≤ q → Greatest (LabelsFit ps) p q
@@ -209,7 +163,7 @@ greatest-to-supremum {ps} p q places some-p some-q greatest = record { bound = b
           under = q + q′;
           some-over = omega arith;
           some-under = omega arith;
-          has = labels-fit-squares p q (p + p′) (q + q′) places some-p some-q (omega arith) (omega arith) (greatest .has);
+          has = labels-fit-squares p q (p + p′) (q + q′) some-p some-q (omega arith) (omega arith) places (greatest .has);
           greater = omega arith;
         }
 
@@ -225,7 +179,7 @@ supremum-to-greatest {ps} p q places some-p some-q supremum = record { has = has
       where
         below : (p′ q′ : ℕ) → 1 ≤ q′ → Exceeded (SquaresFit ps) p′ q′ → SquaresFit ps p′ q′
         below p′ q′ some-q′ side =
-            labels-fit-squares (side .over) (side .under) p′ q′ places (side .some-over) (side .some-under) some-q′ (side .greater)
+            labels-fit-squares (side .over) (side .under) p′ q′ (side .some-over) (side .some-under) some-q′ (side .greater) places
             (squares-fit-labels (side .some-over) (side .has))
 
     none-greater : (p′ q′ : ℕ) → 1 ≤ p′ → 1 ≤ q′ → LabelsFit ps p′ q′ → p′ * q ≤ p * q′
@@ -235,7 +189,7 @@ supremum-to-greatest {ps} p q places some-p some-q supremum = record { has = has
         go (yes within) = within
         go (no beyond) =
             let between : SquaresFit ps (p + p′) (q + q′) =
-            labels-fit-squares p′ q′ (p + p′) (q + q′) places some-p′ some-q′ (omega arith) (omega arith) labels in
+            labels-fit-squares p′ q′ (p + p′) (q + q′) some-p′ some-q′ (omega arith) (omega arith) places labels in
             let within = supremum .bound .none-greater (p + p′) (q + q′) (omega arith) (omega arith) between in
             omega arith
 
@@ -245,3 +199,14 @@ pub greatest-supremum : {ps : List Place} (p q : ℕ) → Distinct ps → 1 ≤ 
     → Greatest (LabelsFit ps) p q ↔ Supremum (SquaresFit ps) p q
 greatest-supremum p q places some-p some-q =
     (greatest-to-supremum p q places some-p some-q, supremum-to-greatest p q places some-p some-q)
+
+-- Along an axis a closed square has the site, what lies inside, and the far edge.
+pub up-to-parts : {p q : ℕ} {d : Direction} {a : ℕ} {t : Fraction} → UpTo p q d a t → AtSite a t ⊎ (Inside p q d a t ⊎ AtFarEdge p q d a t)
+up-to-parts {p} {q} {d} {a} {t} within =
+    by-place (decLt 0 (dist (moved a t) (t .plus))) (decLt (dist (moved a t) (t .plus) * q) (p * t .parts))
+  where
+    by-place : Dec (0 < dist (moved a t) (t .plus)) → Dec (dist (moved a t) (t .plus) * q < p * t .parts)
+        → AtSite a t ⊎ (Inside p q d a t ⊎ AtFarEdge p q d a t)
+    by-place (no none) near = inl (record { at = omega arith })
+    by-place (yes past) (yes near) = inr (inl (record { onward = within .onward; past = omega arith; near = near }))
+    by-place (yes past) (no far) = inr (inr (record { onward = within .onward; far = omega (arith, within .near, far) }))

@@ -12,21 +12,26 @@ use lib.Seq.{take-length}
 use Rattle.placing.specs.declared.units.Place.{Place}
 use Rattle.placing.specs.declared.units.Side.{Side}
 use Rattle.placing.specs.declared.units.Side.the-variants.{Number, Free}
-use Rattle.placing.specs.rules.Units.{OnPlan, nowhere, xOf, yOf, mostSites}
+use Rattle.placing.specs.rules.Units.{OnPlan, nowhere, along, X, Y, mostSites}
 use Rattle.placing.specs.rules.Corner.{Corner}
-use Rattle.placing.specs.rules.Corners.{Corners}
-use Rattle.placing.specs.rules.Answer.{Answer, answerOf, IsAnswer, is-free, is-number, answer-is}
+use Rattle.placing.specs.rules.Choice.{Corners}
+use Rattle.placing.specs.rules.Answer.{Answer, IsAnswer, is-free, is-number}
+use Rattle.placing.specs.deciding.Answer.{answerOf}
+use Rattle.placing.specs.theorems.Answer.{answer-is}
 use Rattle.plan.specs.declared.name.Name.{Name}
 use Rattle.plan.specs.declared.plan.Plan.{Plan}
-use Rattle.plan.specs.rules.Text.{tab, lineFeed}
-use Rattle.plan.specs.rules.Number.{decimal, decimal-short, decimal-digit}
-use Rattle.plan.specs.rules.Name.{bytesOf, name-short, name-held, mostNameBytes}
-use Rattle.plan.specs.rules.Site.{Site, placeOf, placesOf, noSite, Listed, place-at}
-use Rattle.plan.specs.rules.List.{listLine}
-use Rattle.plan.specs.rules.Sheet.{sideText, siteLines, sheetWith, sheetOf, answer-corners, longestSideLine, longestSiteLine, longestSheet}
+use Rattle.plan.specs.rules.Text.{tab, lineFeed, decimal, mostNameBytes}
+use Rattle.plan.specs.rules.List.{Site, placeOf, placesOf, noSite, Listed, listLine}
+use Rattle.plan.specs.rules.Sheet.{sideText, siteLines, sheetWith}
+use Rattle.plan.specs.deciding.Output.{sheetOf}
+use Rattle.plan.specs.calls.Plan.{nameHeld, nameRecord, placedPlan, unplacedPlan, sitesIn, Valid, is-placed, is-unplaced}
+use Rattle.plan.specs.theorems.Text.{decimal-short, decimal-digit, name-short}
+use Rattle.plan.specs.theorems.Sheet.{answer-corners}
+use Rattle.plan.specs.calls.Lengths.{longestSideLine, longestSiteLine, longestSheet}
+use Rattle.plan.specs.theorems.Plan.{sites-placed}
 use Rattle.plan.specs.code.SheetParts.{sideLineEnded, siteLineEnded, SideSmall, pastNames, siteHeld, lineHeld}
 use Rattle.plan.specs.code.Taken.{siteOf}
-use Rattle.plan.specs.rules.Plan.{nameRecord, placed, unplaced, sitesIn, sites-placed, Valid, is-placed, is-unplaced}
+use Rattle.plan.specs.code.Entering.{name-held}
 use Rattle.plan.specs.code.Put.{Put}
 use Rattle.plan.specs.code.PutLaws.{put-none, put-then, put-same, put-length}
 
@@ -38,7 +43,7 @@ side-text-short (Number h) small = decimal-short (h .0) (omega arith)
 side-text-short Free small = omega arith
 
 -- A name is no longer than its record says.
-pub name-text-short : (name : Name) → name .len ≤ mostNameBytes → length (bytesOf name) ≤ mostNameBytes
+pub name-text-short : (name : Name) → name .len ≤ mostNameBytes → length (nameHeld name) ≤ mostNameBytes
 name-text-short name short = rw length-take (omega arith)
 
 -- A corner is one byte.
@@ -55,8 +60,8 @@ site-line-short : (name : Name) (place : Place) (corner : ℕ) → name .len ≤
 unfolding listLine
 site-line-short name place corner short on is =
     let name-short = name-text-short name short in
-    let x-short = decimal-short (xOf place) (omega arith) in
-    let y-short = decimal-short (yOf place) (omega arith) in
+    let x-short = decimal-short (along X place) (omega arith) in
+    let y-short = decimal-short (along Y place) (omega arith) in
     let corner-short = corner-text-short corner is in
     simp length-append (omega arith)
 
@@ -91,7 +96,7 @@ sheet-of-lines sites answer = simp append-assoc
 
 -- The line of a site, part by part.
 pub line-parts : (site : Site) (corner : ℕ)
-    → site .name ++ (tab ∷ (decimal (xOf (site .place)) ++ (tab ∷ (decimal (yOf (site .place)) ++ (tab ∷ (decimal corner ++ (lineFeed ∷ [])))))))
+    → site .name ++ (tab ∷ (decimal (along X (site .place)) ++ (tab ∷ (decimal (along Y (site .place)) ++ (tab ∷ (decimal corner ++ (lineFeed ∷ [])))))))
     ≡ siteLineEnded site corner
 unfolding listLine
 line-parts site corner = simp append-assoc
@@ -127,21 +132,21 @@ answer-side (is-number none-free least most first above) = most
 
 module _ (sites : List Site) (listed : Listed sites) where
   -- The name's record that is held at a number,
-  name-at : (i : ℕ) → i < length sites → getD (placed sites .names) i pastNames ≡ nameRecord (getD sites i noSite)
-  unfolding placed
+  name-at : (i : ℕ) → i < length sites → getD (placedPlan sites .names) i pastNames ≡ nameRecord (getD sites i noSite)
+  unfolding placedPlan
   name-at i below = held-at nameRecord sites _ i pastNames noSite below
 
   -- the place,
-  place-held : (i : ℕ) → i < length sites → getD (placed sites .places) i nowhere ≡ getD sites i noSite .place
-  unfolding placed
+  place-held : (i : ℕ) → i < length sites → getD (placedPlan sites .places) i nowhere ≡ getD sites i noSite .place
+  unfolding placedPlan
   place-held i below = held-at placeOf sites _ i nowhere noSite below
 
   -- and so the site.
-  site-held : (i : ℕ) → i < length sites → siteHeld (placed sites) i ≡ getD sites i noSite
+  site-held : (i : ℕ) → i < length sites → siteHeld (placedPlan sites) i ≡ getD sites i noSite
   site-held i below =
       ap₂ siteOf (name-at i below) (place-held i below)
       ∙ ap (λ (name : List ℕ). record { name = name; place = getD sites i noSite .place })
-      (name-held (getD sites i noSite .name) (name-short (getD sites i noSite .name) (listed .named i below)))
+      (name-held (getD sites i noSite .name))
 
   -- The corners of the answer, one for each site.
   held-corners : Corners (length (placesOf sites)) (answerOf (placesOf sites) .corners)
@@ -152,54 +157,51 @@ module _ (sites : List Site) (listed : Listed sites) where
   corners-enough = held-corners .one-each ∙ length-map sites placeOf
 
   -- and the one that is held at a number is a corner.
-  corner-held : (i : ℕ) → i < length sites → Corner (getD (placed sites .corners) i 0)
-  unfolding placed
+  corner-held : (i : ℕ) → i < length sites → Corner (getD (placedPlan sites .corners) i 0)
+  unfolding placedPlan
   corner-held i below =
       rw (List·getD-append (answerOf (placesOf sites) .corners) _ 0 i (omega (arith, corners-enough)))
       (held-corners .corner i (omega (arith, length-map sites placeOf)))
 
   -- The place at a number is in range.
-  on-plan-held : (i : ℕ) → i < length sites → OnPlan (getD (placed sites .places) i nowhere)
-  on-plan-held i below =
-      let within : i < length (placesOf sites) = rw length-map below in
-      rw (place-held i below, ← place-at sites i)
-      (record { on-x = record { range = listed .in-range .x-range i within }; on-y = record { range = listed .in-range .y-range i within } })
+  on-plan-held : (i : ℕ) → i < length sites → OnPlan (getD (placedPlan sites .places) i nowhere)
+  on-plan-held i below = rw (place-held i below) (listed .by-rules i below .on-plan)
 
   -- The lines of the first sites are those of the list.
-  lines-held : (i : ℕ) → linesTo (placed sites) i ≡ siteLines (take i sites) (placed sites .corners)
+  lines-held : (i : ℕ) → linesTo (placedPlan sites) i ≡ siteLines (take i sites) (placedPlan sites .corners)
   unfolding linesTo
-  lines-held i = ap (λ (l : List Site). siteLines (take i l) (placed sites .corners)) (sites-placed sites)
+  lines-held i = ap (λ (l : List Site). siteLines (take i l) (placedPlan sites .corners)) (sites-placed sites)
 
   -- One site more is one line more,
   one-line-held : (i : ℕ) → i < length sites
-      → linesTo (placed sites) (suc i) ≡ linesTo (placed sites) i ++ siteLineEnded (siteHeld (placed sites) i) (getD (placed sites .corners) i 0)
-  unfolding placed
+      → linesTo (placedPlan sites) (suc i) ≡ linesTo (placedPlan sites) i ++ siteLineEnded (siteHeld (placedPlan sites) i) (getD (placedPlan sites .corners) i 0)
+  unfolding placedPlan
   one-line-held i below =
       lines-held (suc i)
-      ∙ site-lines-more sites (placed sites .corners) i below
+      ∙ site-lines-more sites (placedPlan sites .corners) i below
       (simp length-append (omega (arith, corners-enough)))
-      ∙ ap₂ (λ (lines : List ℕ) (site : Site). lines ++ siteLineEnded site (getD (placed sites .corners) i 0)) (sym (lines-held i))
+      ∙ ap₂ (λ (lines : List ℕ) (site : Site). lines ++ siteLineEnded site (getD (placedPlan sites .corners) i 0)) (sym (lines-held i))
       (sym (site-held i below))
 
   -- and all lines, with the first, are the sheet.
-  whole-held : sideLineEnded (placed sites .side) ++ linesTo (placed sites) (length sites) ≡ sheetOf (sitesIn (placed sites))
-  unfolding placed sheetOf
+  whole-held : sideLineEnded (placedPlan sites .side) ++ linesTo (placedPlan sites) (length sites) ≡ sheetOf (sitesIn (placedPlan sites))
+  unfolding placedPlan sheetOf
   whole-held =
-      ap (λ (lines : List ℕ). sideLineEnded (placed sites .side) ++ lines)
+      ap (λ (lines : List ℕ). sideLineEnded (placedPlan sites .side) ++ lines)
       (lines-held (length sites)
-      ∙ ap (λ (l : List Site). siteLines l (placed sites .corners)) (take-length sites)
+      ∙ ap (λ (l : List Site). siteLines l (placedPlan sites .corners)) (take-length sites)
       ∙ lines-past sites (answerOf (placesOf sites) .corners) _ (omega (arith, corners-enough)))
       ∙ sheet-of-lines sites (answerOf (placesOf sites))
       ∙ ap sheetOf (sym (sites-placed sites))
 
   -- So the plan of some sites can be printed.
-  placed-printable : Printable (placed sites)
-  unfolding placed linesTo siteLines
+  placed-printable : Printable (placedPlan sites)
+  unfolding placedPlan linesTo siteLines
   placed-printable =
       record {
         few = listed .few;
         side-small = answer-side (answer-is (placesOf sites) (listed .places-distinct));
-        name-fits = λ i below. rw (name-at i below) (name-short (getD sites i noSite .name) (listed .named i below));
+        name-fits = λ i below. rw (name-at i below) (name-short (getD sites i noSite .name) (listed .by-rules i below .named));
         on-plan = on-plan-held;
         corner = corner-held;
         no-line = refl;
@@ -209,7 +211,7 @@ module _ (sites : List Site) (listed : Listed sites) where
 
 -- A valid plan that is placed can be printed.
 pub printable : {plan : Plan} → Valid plan → plan .placed ≡ true → Printable plan
-unfolding unplaced
+unfolding unplacedPlan
 printable (is-unplaced sites listed) placed = absurd (false≢true placed)
 printable (is-placed sites listed nonempty) placed = placed-printable sites listed
 

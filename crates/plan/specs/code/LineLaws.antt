@@ -1,199 +1,158 @@
--- Laws on finding the end of a line and of its fields in a text, and on entering a line whose field ends are found.
+-- Laws on finding a byte in a text from a place on: the end of a line and the ends of its fields.
 -- Assumes nothing.
-use mathlib.Core.Path.{_≡_, refl, sym, ap, ap₂, _∙_}
+use mathlib.Core.Path.{_≡_, sym, ap, ap₂, _∙_, subst}
+use mathlib.Core.Bool.{true}
 use mathlib.Core.Logic.{_≢_, ⊎-elim}
 use mathlib.Core.List.{List, [], _∷_, _++_}
-use mathlib.Core.Option.{Option, some, none, Option·map}
 use Prim.Native.Nat.{ℕ, suc, _+_, _-_, _≤_, _<_}
-use native.Mathlib.Nat.{not-suc-le-zero, eq-or-lt-of-le, sub-zero}
+use native.Mathlib.Nat.{eq-or-lt-of-le, sub-zero}
+use native.Mathlib.Decide.{decLt}
 use native.Mathlib.Numerals.{add-one}
 use native.Mathlib.Omega.{arith}
-use lib.ListN.{length, getD, take, drop, length-drop, drop-of-length-le, take-append-drop}
-use lib.Seq.{drop-cons, drop-drop, getD-drop, getD-take, length-take-le, take-all}
+use lib.ListN.{length, getD, take, drop, length-append, length-drop, take-append-drop}
+use lib.Seq.{drop-cons, drop-drop, getD-drop, getD-take, getD-append-seam, length-take-le, take-all}
 use borrow.Author.Tests.{ne-eqb}
-use Rattle.plan.specs.declared.list.LineEnd.the-variants.{At, Missing}
-use Rattle.plan.specs.declared.refusal.Refusal.the-variants.{Line}
-use Rattle.plan.specs.rules.Text.{tab, lineFeed, Cut, withByte, cutWithin, firstLine, fieldsOf, Without, fields-one, fields-more, fields-some, endedLine, mostLineBytes}
-use Rattle.plan.specs.code.Line.{lineEnd, FieldEnd}
-use Rattle.plan.specs.rules.Site.{Site}
-use Rattle.plan.specs.rules.Enter.{refused}
-use Rattle.plan.specs.rules.List.{enteredFields, enteredLine}
+use Rattle.plan.specs.declared.refusal.Refusal.the-variants.{BadLine}
+use Rattle.plan.specs.rules.Refusal.{refused}
+use Rattle.plan.specs.rules.Text.{tab, lineFeed, Without, fieldsOf}
+use Rattle.plan.specs.rules.List.{Site, mostLineBytes, TextLine, FirstLine, with-feed}
+use Rattle.plan.specs.theorems.Text.{parted-one, parted-more, parted-some}
+use Rattle.plan.specs.theorems.Reading.{first-line-whole}
+use Rattle.plan.specs.code.Line.{NoByte, between, FieldEnd, lineAt, LineAt, enteredFields}
 
--- ---- the end of a line
+-- ---- the bytes up to a byte
 
--- A line with one byte more ends one place later.
-end-with-byte : (at b : ℕ) (further : Option Cut) → lineEnd at (Option·map (withByte b) further) ≡ lineEnd (at + 1) further
-end-with-byte at b none = refl
-end-with-byte at b (some cut) = ap At (omega arith)
+-- No byte is passed at first,
+pub no-byte-starts : (b : ℕ) (text : List ℕ) (at : ℕ) → at ≤ length text → NoByte b text at at
+no-byte-starts b text at inside = record { after = omega arith; within = inside; passed = λ i from to. absurd (omega arith) }
 
--- After a byte that is no line feed, a line ends where it does from the next place on.
-end-after-byte : (k at b : ℕ) (text : List ℕ) → b ≢ lineFeed
-    → lineEnd at (cutWithin (suc k) (b ∷ text)) ≡ lineEnd (at + 1) (cutWithin k text)
-unfolding cutWithin
-end-after-byte k at b text no-feed = rw (ne-eqb b lineFeed no-feed, lineEnd) (end-with-byte at b (cutWithin k text))
-
--- The i bytes of a text from a place on are no line feeds: its line ends where it does from the byte after them on.
-pub record LineFrom (text : List ℕ) (at i : ℕ) : Type 0 where
-  pub within : at + i ≤ length text
-  pub onward : lineEnd at (firstLine (drop at text)) ≡ lineEnd (at + i) (cutWithin (endedLine - i) (drop (at + i) text))
-
--- With no byte passed.
-pub line-starts : (text : List ℕ) (at : ℕ) → at ≤ length text → LineFrom text at 0
-line-starts text at inside = let same : at + 0 ≡ at = omega arith in record { within = omega arith; onward = rw same }
-
--- The bytes that are left, and how many of them count, may be written otherwise.
-onward-as : (text : List ℕ) (at i k : ℕ) (rest : List ℕ) → LineFrom text at i → endedLine - i ≡ k → drop (at + i) text ≡ rest
-    → lineEnd at (firstLine (drop at text)) ≡ lineEnd (at + i) (cutWithin k rest)
-onward-as text at i k rest so-far counted left =
-    so-far .onward ∙ ap₂ (λ (m : ℕ) (bytes : List ℕ). lineEnd (at + i) (cutWithin m bytes)) counted left
-
--- Where a byte is left, the line from there on begins with it.
-onward-byte : (text : List ℕ) (at i : ℕ) → LineFrom text at i → i < endedLine → at + i < length text
-    → lineEnd at (firstLine (drop at text)) ≡ lineEnd (at + i) (cutWithin (suc (mostLineBytes - i)) (getD text (at + i) 0 ∷ drop (suc (at + i)) text))
-onward-byte text at i so-far few inside = onward-as text at i _ _ so-far (omega arith) (drop-cons text (at + i) 0 inside)
-
--- One byte more that is no line feed.
-pub line-on : (text : List ℕ) (at i : ℕ) → LineFrom text at i → i < endedLine → at + i < length text → getD text (at + i) 0 ≢ lineFeed
-    → LineFrom text at (i + 1)
-line-on text at i so-far few inside no-feed =
-    let next : at + (i + 1) ≡ at + i + 1 = omega arith in
-    let left : endedLine - (i + 1) ≡ mostLineBytes - i = omega arith in
-    record {
-      within = omega arith;
-      onward = rw (next, left) (onward-byte text at i so-far few inside
-          ∙ end-after-byte (mostLineBytes - i) (at + i) (getD text (at + i) 0) (drop (suc (at + i)) text) no-feed
-          ∙ ap (λ (k : ℕ). lineEnd (at + i + 1) (cutWithin (mostLineBytes - i) (drop k text))) (sym (add-one (at + i))));
-    }
-
--- A line feed is the line's end.
-pub line-here : (text : List ℕ) (at i : ℕ) → LineFrom text at i → i < endedLine → at + i < length text → getD text (at + i) 0 ≡ lineFeed
-    → lineEnd at (firstLine (drop at text)) ≡ At (at + i)
-unfolding cutWithin
-line-here text at i so-far few inside feed =
-    onward-byte text at i so-far few inside
-    ∙ ap (λ (b : ℕ). lineEnd (at + i) (cutWithin (suc (mostLineBytes - i)) (b ∷ drop (suc (at + i)) text))) feed
-    ∙ ap At (omega arith)
-
--- A text that ends before a line feed has no whole line.
-pub line-short : (text : List ℕ) (at i : ℕ) → LineFrom text at i → i < endedLine → length text - at ≤ i
-    → lineEnd at (firstLine (drop at text)) ≡ Missing
-unfolding cutWithin
-line-short text at i so-far few ends =
-    onward-as text at i (suc (mostLineBytes - i)) [] so-far (omega arith) (drop-of-length-le text {i = at + i} (omega arith))
-
--- Nor is there one whose first 21 bytes are no line feeds.
-pub line-long : (text : List ℕ) (at i : ℕ) → LineFrom text at i → endedLine ≤ i → lineEnd at (firstLine (drop at text)) ≡ Missing
-unfolding cutWithin
-line-long text at i so-far many = onward-as text at i 0 (drop (at + i) text) so-far (omega arith) refl
-
--- ---- the end of a field
-
--- No tab in a line from a place on up to another.
-pub record NoTab (line : List ℕ) (at end : ℕ) : Type 0 where
-  pub after : at ≤ end
-  pub within : end ≤ length line
-  pub no-tab : (i : ℕ) → at ≤ i → i < end → getD line i 0 ≢ tab
-
--- With no byte passed.
-pub no-tab-starts : (line : List ℕ) (at : ℕ) → at ≤ length line → NoTab line at at
-no-tab-starts line at inside = record { after = omega arith; within = inside; no-tab = λ i from to. absurd (omega arith) }
-
--- One byte more that is no tab.
-pub no-tab-on : {line : List ℕ} {at end : ℕ} → NoTab line at end → end < length line → getD line end 0 ≢ tab → NoTab line at (end + 1)
-no-tab-on {line} {at} {end} so-far inside no-tab =
+-- and then one more that is another.
+pub no-byte-on : {b : ℕ} {text : List ℕ} {at end : ℕ} → NoByte b text at end → end < length text → getD text end 0 ≢ b
+    → NoByte b text at (end + 1)
+no-byte-on {end = end} so-far inside other =
     record {
       after = omega arith;
       within = omega arith;
-      no-tab = λ i from to. ⊎-elim (λ (last : i ≡ end). rw last no-tab) (so-far .no-tab i from) (eq-or-lt-of-le (omega arith));
+      passed = λ i from to. ⊎-elim (λ (last : i ≡ end). rw last other) (so-far .passed i from) (eq-or-lt-of-le (omega arith));
     }
-
--- A tab, or the line's end, is the field's end.
-pub field-ends : {line : List ℕ} {at end : ℕ} → NoTab line at end → (end < length line → getD line end 0 ≡ tab) → FieldEnd line at end
-field-ends so-far at-tab = record { after = so-far .after; within = so-far .within; no-tab = so-far .no-tab; at-tab = at-tab }
 
 -- A text is without a byte that stands at no place of it.
 without-at : (b : ℕ) (bytes : List ℕ) → ((i : ℕ) → i < length bytes → getD bytes i 0 ≢ b) → Without b bytes
 without-at b [] nowhere = tt
 without-at b (c ∷ bytes) nowhere = (nowhere 0 (omega arith), without-at b bytes (λ i inside. nowhere (suc i) (omega arith)))
 
--- The bytes of a line from a place on up to another.
-abbrev pub between : List ℕ → ℕ → ℕ → List ℕ
-between line at end = take (end - at) (drop at line)
+module _ {b : ℕ} {text : List ℕ} {at end : ℕ} (so-far : NoByte b text at end) where
+  -- How many bytes were passed,
+  between-length : length (between text at end) ≡ end - at
+  between-length = length-take-le (end - at) (drop at text) (omega (arith, so-far .after, so-far .within, length-drop at text))
 
--- A field has no tab.
-field-without : {line : List ℕ} {at end : ℕ} → FieldEnd line at end → Without tab (between line at end)
-field-without {line} {at} {end} found =
-    let after : at ≤ end = found .after in
-    let within : end ≤ length line = found .within in
-    let size : length (between line at end) ≡ end - at = length-take-le (end - at) (drop at line) (omega (arith, length-drop at line)) in
-    without-at tab (between line at end) (λ i inside e.
-    let below : i < end - at = omega arith in
-    found .no-tab (at + i) (omega arith) (omega arith) (sym (getD-take (end - at) (drop at line) i 0 below ∙ getD-drop at line i 0) ∙ e))
+  -- none of them is this one,
+  between-without : Without b (between text at end)
+  between-without =
+      without-at b (between text at end) (λ i inside e.
+      let below : i < end - at = omega (arith, between-length) in
+      so-far .passed (at + i) (omega arith) (omega arith) (sym (getD-take (end - at) (drop at text) i 0 below ∙ getD-drop at text i 0) ∙ e))
 
--- Where a tab ends it, a field is the first of the fields from its start on.
-fields-to-tab : {line : List ℕ} {at end : ℕ} → FieldEnd line at end → end ≢ length line
-    → fieldsOf (drop at line) ≡ between line at end ∷ fieldsOf (drop (end + 1) line)
-fields-to-tab {line} {at} {end} found no-end =
-    let after : at ≤ end = found .after in
-    let within : end ≤ length line = found .within in
-    let inside : end < length line = omega arith in
-    let seam : at + (end - at) ≡ end = omega arith in
-    let rest : drop (end - at) (drop at line) ≡ tab ∷ drop (end + 1) line
-    = drop-drop (end - at) at line ∙ rw (seam, drop-cons line end 0 inside, found .at-tab inside, add-one end) in
-    ap fieldsOf (sym (take-append-drop (end - at) (drop at line)) ∙ ap (λ (bytes : List ℕ). between line at end ++ bytes) rest)
-    ∙ fields-more (between line at end) (drop (end + 1) line) (field-without found)
+  -- and where it follows, they stand in front of it.
+  between-then : end < length text → getD text end 0 ≡ b → drop at text ≡ between text at end ++ (b ∷ drop (end + 1) text)
+  between-then inside found =
+      let after : at ≤ end = so-far .after in
+      let seam : at + (end - at) ≡ end = omega arith in
+      let rest : drop (end - at) (drop at text) ≡ b ∷ drop (end + 1) text =
+      drop-drop (end - at) at text ∙ rw (seam, drop-cons text end 0 inside, found, add-one end) in
+      sym (take-append-drop (end - at) (drop at text)) ∙ ap (λ (bytes : List ℕ). between text at end ++ bytes) rest
 
--- At the line's end, it is the last of them.
-fields-to-end : {line : List ℕ} {at end : ℕ} → FieldEnd line at end → end ≡ length line
-    → fieldsOf (drop at line) ≡ between line at end ∷ []
-fields-to-end {line} {at} {end} found at-end =
-    let all : between line at end ≡ drop at line = take-all (end - at) (drop at line) (omega (arith, length-drop at line)) in
-    ap fieldsOf (sym all) ∙ fields-one (between line at end) (field-without found)
+-- ---- the end of a line
+
+module _ {text : List ℕ} {at end : ℕ} (so-far : NoByte lineFeed text at end) where
+  -- A line feed is the line's end.
+  pub line-here : end < length text → getD text end 0 ≡ lineFeed → end ≤ at + mostLineBytes → LineAt text at end
+  line-here inside feed few =
+      record {
+        first =
+            subst (λ (l : List ℕ). FirstLine l (lineAt text at end)) (sym (between-then so-far inside feed))
+            (with-feed (between-without so-far));
+        short = omega (arith, between-length so-far);
+        after = so-far .after;
+        inside = inside;
+      }
+
+  -- Where the first line is ended, that is no sooner, and within the text.
+  pub feed-later : (line : TextLine) → FirstLine (drop at text) line → line .ended ≡ true
+      → (end ≤ at + length (line .bytes)) × (at + length (line .bytes) < length text)
+  feed-later line first ended = by-place (decLt (at + length (line .bytes)) end)
+    where
+      whole : drop at text ≡ line .bytes ++ (lineFeed ∷ line .rest)
+      whole = first-line-whole first ended
+
+      inside : at + length (line .bytes) < length text
+      inside =
+          let size = sym (length-drop at text) ∙ ap length whole ∙ length-append (line .bytes) (lineFeed ∷ line .rest) in
+          omega (arith, so-far .after, so-far .within)
+
+      feed : getD text (at + length (line .bytes)) 0 ≡ lineFeed
+      feed =
+          sym (getD-drop at text (length (line .bytes)) 0) ∙ ap (λ (l : List ℕ). getD l (length (line .bytes)) 0) whole
+          ∙ getD-append-seam (line .bytes) lineFeed (line .rest) 0
+
+      by-place : Dec (at + length (line .bytes) < end) → (end ≤ at + length (line .bytes)) × (at + length (line .bytes) < length text)
+      by-place (yes sooner) = absurd (so-far .passed (at + length (line .bytes)) (omega arith) sooner feed)
+      by-place (no later) = (omega arith, inside)
+
+-- ---- the fields of a line
+
+module _ {line : List ℕ} {at end : ℕ} (found : FieldEnd line at end) where
+  -- Where a tab ends it, a field is the first of the fields from its start on;
+  field-more : end ≢ length line → fieldsOf (drop at line) ≡ between line at end ∷ fieldsOf (drop (end + 1) line)
+  field-more no-end =
+      let within : end ≤ length line = found .no-tab .within in
+      let inside : end < length line = omega arith in
+      ap fieldsOf (between-then (found .no-tab) inside (found .at-tab inside))
+      ∙ parted-more tab (between line at end) (drop (end + 1) line) (between-without (found .no-tab))
+
+  -- at the line's end, it is the last of them.
+  field-last : end ≡ length line → fieldsOf (drop at line) ≡ between line at end ∷ []
+  field-last at-end =
+      let all : between line at end ≡ drop at line = take-all (end - at) (drop at line) (omega (arith, length-drop at line)) in
+      ap fieldsOf (sym all) ∙ parted-one tab (between line at end) (between-without (found .no-tab))
 
 -- ---- entering a line
 
--- A line of one field is refused.
-pub line-of-one : {line : List ℕ} {first : ℕ} (sites : List Site) → FieldEnd line 0 first → first ≡ length line
-    → enteredLine sites line ≡ refused Line
-unfolding enteredLine
-line-of-one sites one ends = ap (enteredFields sites) (fields-to-end one ends)
+-- Other than three fields are refused.
+not-three : (sites : List Site) (fields : List (List ℕ)) → length fields ≢ 3 → enteredFields sites fields ≡ refused BadLine
+not-three sites fields other = rw (ne-eqb (length fields) 3 other)
 
--- So is a line of two.
-pub line-of-two : {line : List ℕ} {first second : ℕ} (sites : List Site) → FieldEnd line 0 first → first ≢ length line
-    → FieldEnd line (first + 1) second → second ≡ length line → enteredLine sites line ≡ refused Line
-unfolding enteredLine
-line-of-two {line} {first} sites one on two ends =
-    ap (enteredFields sites) (fields-to-tab one on ∙ ap (λ (fields : List (List ℕ)). between line 0 first ∷ fields) (fields-to-end two ends))
+-- A line by the ends of its fields that are found: of one,
+module _ (sites : List Site) {line : List ℕ} {first : ℕ} (one : FieldEnd line 0 first) where
+  pub line-of-one : first ≡ length line → enteredFields sites (fieldsOf line) ≡ refused BadLine
+  line-of-one ends = not-three sites (fieldsOf line) (λ three. omega (arith, three, ap length (field-last one ends)))
 
--- The fields of a line from the third on.
-line-from-third : {line : List ℕ} {first second : ℕ} (sites : List Site) → FieldEnd line 0 first → first ≢ length line
-    → FieldEnd line (first + 1) second → second ≢ length line
-    → enteredLine sites line ≡ enteredFields sites (between line 0 first ∷ between line (first + 1) second ∷ fieldsOf (drop (second + 1) line))
-unfolding enteredLine
-line-from-third {line} {first} sites one on two further =
-    ap (enteredFields sites) (fields-to-tab one on ∙ ap (λ (fields : List (List ℕ)). between line 0 first ∷ fields) (fields-to-tab two further))
+  -- of two,
+  module _ {second : ℕ} (on : first ≢ length line) (two : FieldEnd line (first + 1) second) where
+    pub line-of-two : second ≡ length line → enteredFields sites (fieldsOf line) ≡ refused BadLine
+    line-of-two ends =
+        not-three sites (fieldsOf line) (λ three. omega (arith, three, ap length (field-more one on), ap length (field-last two ends)))
 
--- A fourth field is one too many.
-four-fields : (sites : List Site) (a b c : List ℕ) (fields : List (List ℕ)) → 1 ≤ length fields
-    → enteredFields sites (a ∷ b ∷ c ∷ fields) ≡ refused Line
-four-fields sites a b c [] some-field = absurd (not-suc-le-zero some-field)
-four-fields sites a b c (d ∷ fields) some-field = refl
+    -- of more than three, and of three, which are entered as they are.
+    module _ {third : ℕ} (further : second ≢ length line) (three : FieldEnd line (second + 1) third) where
+      pub line-of-four : third ≢ length line → enteredFields sites (fieldsOf line) ≡ refused BadLine
+      line-of-four more =
+          not-three sites (fieldsOf line) (λ is.
+          omega (
+            arith,
+            is,
+            ap length (field-more one on),
+            ap length (field-more two further),
+            ap length (field-more three more),
+            parted-some tab (drop (third + 1) line),
+          ))
 
--- And one of more than three.
-pub line-of-four : {line : List ℕ} {first second third : ℕ} (sites : List Site) → FieldEnd line 0 first → first ≢ length line
-    → FieldEnd line (first + 1) second → second ≢ length line → FieldEnd line (second + 1) third → third ≢ length line
-    → enteredLine sites line ≡ refused Line
-line-of-four {line} {first} {second} {third} sites one on two further three more =
-    line-from-third sites one on two further
-    ∙ ap (λ (fields : List (List ℕ)). enteredFields sites (between line 0 first ∷ between line (first + 1) second ∷ fields)) (fields-to-tab three more)
-    ∙ four-fields sites _ _ _ (fieldsOf (drop (third + 1) line)) (fields-some _)
-
--- A line of three fields is entered as they are.
-pub line-of-three : {line : List ℕ} {first second third : ℕ} (sites : List Site) → FieldEnd line 0 first → first ≢ length line
-    → FieldEnd line (first + 1) second → second ≢ length line → FieldEnd line (second + 1) third → third ≡ length line
-    → enteredLine sites line
-    ≡ enteredFields sites (take first line ∷ between line (first + 1) second ∷ between line (second + 1) (length line) ∷ [])
-line-of-three {line} {first} {second} {third} sites one on two further three ends =
-    line-from-third sites one on two further
-    ∙ ap₂ (λ (k : ℕ) (fields : List (List ℕ)). enteredFields sites (take k line ∷ between line (first + 1) second ∷ fields)) (sub-zero first)
-    (fields-to-end three ends ∙ ap (λ (end : ℕ). between line (second + 1) end ∷ []) ends)
+      pub line-of-three : third ≡ length line
+          → enteredFields sites (fieldsOf line)
+          ≡ enteredFields sites (take first line ∷ between line (first + 1) second ∷ between line (second + 1) (length line) ∷ [])
+      line-of-three ends =
+          ap (enteredFields sites)
+          (field-more one on
+          ∙ ap₂ (λ (k : ℕ) (fields : List (List ℕ)). take k line ∷ fields) (sub-zero first)
+          (field-more two further ∙ ap (λ (fields : List (List ℕ)). between line (first + 1) second ∷ fields)
+          (field-last three ends ∙ ap (λ (end : ℕ). between line (second + 1) end ∷ []) ends)))

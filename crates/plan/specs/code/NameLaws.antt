@@ -11,45 +11,38 @@ use native.Mathlib.Omega.{arith}
 use lib.Dec.{eqb, leb}
 use lib.ListN.{length, getD, take, drop, replicate, length-replicate, drop-of-length-le}
 use lib.Seq.{drop-cons, take-length, slice-cons, slice-empty}
-use borrow.Author.Tests.{le-leb, lt-leb, eq-eqb, ne-eqb}
+use borrow.Author.Tests.{le-leb, lt-leb, ne-eqb}
 use Rattle.plan.specs.declared.name.NameRead.{NameRead}
-use Rattle.plan.specs.rules.Name.{nameByte, nameBytes, isName, sameBytes, nameOf, mostNameBytes, name-short}
+use Rattle.plan.specs.rules.Text.{isNameByte, allNameBytes, isName, sameBytes, mostNameBytes}
+use Rattle.plan.specs.calls.Plan.{nameOf}
+use Rattle.plan.specs.theorems.Text.{name-short}
 use Rattle.plan.specs.code.NameRead.{noRead, nameWhere, nameRead}
 use Rattle.plan.specs.code.Put.{Put}
 use Rattle.plan.specs.code.PutLaws.{put-same, put-front}
 
--- A byte is of a name by where it stands: hyphen, below the digits, a digit, between digits and letters, from A on.
-pub hyphen-name-byte : (b : ℕ) → b ≡ 45 → nameByte b ≡ true
+-- A byte is of a name by where it stands: hyphen, a digit, between digits and letters, from A on.
+pub hyphen-name-byte : (b : ℕ) → b ≡ 45 → isNameByte b ≡ true
 hyphen-name-byte b e = rw e
 
-pub low-no-name-byte : (b : ℕ) → b ≢ 45 → b < 48 → nameByte b ≡ false
-low-no-name-byte b e h = rw (lt-leb 65 b (omega arith), lt-leb 48 b h, ne-eqb b 45 e)
-
-pub digit-name-byte : (b : ℕ) → 48 ≤ b → b ≤ 57 → nameByte b ≡ true
+pub digit-name-byte : (b : ℕ) → 48 ≤ b → b ≤ 57 → isNameByte b ≡ true
 digit-name-byte b h l = rw (lt-leb 65 b (omega arith), le-leb 48 b h, le-leb b 57 l)
 
-pub middle-no-name-byte : (b : ℕ) → 57 < b → b < 65 → nameByte b ≡ false
+pub middle-no-name-byte : (b : ℕ) → 57 < b → b < 65 → isNameByte b ≡ false
 middle-no-name-byte b h l = rw (lt-leb 65 b l, le-leb 48 b (omega arith), lt-leb b 57 h, ne-eqb b 45 (omega arith))
 
-pub letter-name-byte : (b : ℕ) → 65 ≤ b → nameByte b ≡ leb b 90
+pub letter-name-byte : (b : ℕ) → 65 ≤ b → isNameByte b ≡ leb b 90
 letter-name-byte b h =
     rw (le-leb 65 b h, le-leb 48 b (omega arith), lt-leb b 57 (omega arith), ne-eqb b 45 (omega arith)) (or-false (leb b 90))
 
 -- The bytes from i on are of a name if byte i is and those after it are.
-module _ (text : List ℕ) (i : ℕ) (within : i < length text) where
-  name-bytes-from : nameBytes (drop i text) ≡ (nameByte (getD text i 0) && nameBytes (drop (i + 1) text))
-  unfolding nameBytes
-  name-bytes-from = rw (add-one, drop-cons text i 0)
-
-  pub byte-passed : nameByte (getD text i 0) ≡ true → nameBytes (drop i text) ≡ nameBytes (drop (i + 1) text)
-  byte-passed e = name-bytes-from ∙ ap (λ (t : Bool). t && nameBytes (drop (i + 1) text)) e
-
-  pub byte-failed : nameByte (getD text i 0) ≡ false → nameBytes (drop i text) ≡ false
-  byte-failed e = name-bytes-from ∙ ap (λ (t : Bool). t && nameBytes (drop (i + 1) text)) e
+pub name-bytes-from : (text : List ℕ) (i : ℕ) {is : Bool} → i < length text → isNameByte (getD text i 0) ≡ is
+    → allNameBytes (drop i text) ≡ (is && allNameBytes (drop (i + 1) text))
+unfolding allNameBytes
+name-bytes-from text i within e = rw (add-one, drop-cons text i 0, ← e)
 
 -- Past the last byte no byte can fail.
-pub bytes-passed : (text : List ℕ) (i : ℕ) → length text ≤ i → nameBytes (drop i text) ≡ true
-unfolding nameBytes
+pub bytes-passed : (text : List ℕ) (i : ℕ) → length text ≤ i → allNameBytes (drop i text) ≡ true
+unfolding allNameBytes
 bytes-passed text i h = rw (drop-of-length-le text h)
 
 -- The rule for a name, at a text of no byte, at one that is too long, and at others.
@@ -61,7 +54,7 @@ pub long-no-name : (text : List ℕ) → mostNameBytes < length text → isName 
 unfolding isName
 long-no-name text h = rw (le-leb 1 (length text) (omega arith), lt-leb (length text) mostNameBytes h)
 
-pub short-name : (text : List ℕ) → 1 ≤ length text → length text ≤ mostNameBytes → isName text ≡ nameBytes text
+pub short-name : (text : List ℕ) → 1 ≤ length text → length text ≤ mostNameBytes → isName text ≡ allNameBytes text
 unfolding isName
 short-name text h l = rw (le-leb 1 (length text) h, le-leb (length text) mostNameBytes l)
 
@@ -99,18 +92,10 @@ lengths-differ (b ∷ bytes) [] h = refl
 lengths-differ (b ∷ bytes) (c ∷ other) h = rw (lengths-differ bytes other (λ e. h (ap suc e))) (and-false (eqb b c))
 
 -- Two names of n bytes are the same from i on if bytes i are and those after them are.
-module _ (n : ℕ) (a b : List ℕ) (i : ℕ) (within : i < n) (long-a : n ≤ length a) (long-b : n ≤ length b) where
-  same-from : sameBytes (drop i (take n a)) (drop i (take n b))
-      ≡ (eqb (getD a i 0) (getD b i 0) && sameBytes (drop (i + 1) (take n a)) (drop (i + 1) (take n b)))
-  unfolding sameBytes
-  same-from = rw (add-one, slice-cons i n a 0, slice-cons i n b 0)
-
-  pub same-passed : getD a i 0 ≡ getD b i 0
-      → sameBytes (drop i (take n a)) (drop i (take n b)) ≡ sameBytes (drop (i + 1) (take n a)) (drop (i + 1) (take n b))
-  same-passed e = same-from ∙ rw (eq-eqb (getD a i 0) (getD b i 0) e)
-
-  pub same-failed : getD a i 0 ≢ getD b i 0 → sameBytes (drop i (take n a)) (drop i (take n b)) ≡ false
-  same-failed e = same-from ∙ rw (ne-eqb (getD a i 0) (getD b i 0) e)
+pub same-from : (n : ℕ) (a b : List ℕ) (i : ℕ) {is : Bool} → i < n → n ≤ length a → n ≤ length b → eqb (getD a i 0) (getD b i 0) ≡ is
+    → sameBytes (drop i (take n a)) (drop i (take n b)) ≡ (is && sameBytes (drop (i + 1) (take n a)) (drop (i + 1) (take n b)))
+unfolding sameBytes
+same-from n a b i within long-a long-b e = rw (add-one, slice-cons i n a 0, slice-cons i n b 0, ← e)
 
 -- No byte of the two is left.
 pub same-end : (n : ℕ) (a b : List ℕ) → sameBytes (drop n (take n a)) (drop n (take n b)) ≡ true

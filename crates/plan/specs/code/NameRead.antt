@@ -5,7 +5,8 @@ use mathlib.Core.List.{List, []}
 use Prim.Native.Nat.{ℕ}
 use Rattle.plan.specs.declared.name.Name.{Name}
 use Rattle.plan.specs.declared.name.NameRead.{NameRead}
-use Rattle.plan.specs.rules.Name.{isName, nameOf}
+use Rattle.plan.specs.rules.Text.{isName}
+use Rattle.plan.specs.calls.Plan.{nameOf}
 
 -- The name of an empty slot.
 abbrev pub noName : Name

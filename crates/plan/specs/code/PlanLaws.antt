@@ -1,43 +1,27 @@
 -- What a plan that the calls hand back holds, and the plan with one site more.
 -- Assumes nothing.
-use mathlib.Core.Path.{_≡_, refl, sym, ap, ap₂, _∙_, subst}
-use mathlib.Core.Bool.{true, false, false≢true}
+use mathlib.Core.Path.{_≡_, sym, ap, ap₂, _∙_, subst}
+use mathlib.Core.Bool.{true, false}
 use mathlib.Core.List.{List, [], _∷_, _++_, map, map-append, append-assoc}
 use Prim.Native.Nat.{ℕ, suc, _+_, _-_, _*_, _≤_, _<_}
 use native.Mathlib.Omega.{arith}
 use lib.ListN.{length, getD, take, set, replicate, length-map, length-append, List·getD-append, List·getD-map}
-use lib.Seq.{take-at, set-at, getD-take}
+use lib.Seq.{take-at, set-at}
 use Rattle.placing.specs.declared.side.Placed.{Placed}
 use Rattle.placing.specs.declared.units.Place.{Place}
 use Rattle.placing.specs.declared.units.Side.the-variants.{Free}
 use Rattle.placing.specs.rules.Units.{nowhere, mostSites}
-use Rattle.placing.specs.rules.Corners.{cornerAt}
-use Rattle.placing.specs.rules.Answer.{Answer, answerOf}
-use Rattle.placing.specs.rules.Placing.{placedAs, MayPlace}
+use Rattle.placing.specs.deciding.Answer.{answerOf}
+use Rattle.placing.specs.calls.Placing.{placedAs, MayPlace}
 use Rattle.plan.specs.declared.name.Name.{Name}
 use Rattle.plan.specs.declared.plan.Plan.{Plan}
-use Rattle.plan.specs.rules.Name.{bytesOf, nameOf, name-short, mostNameBytes}
-use Rattle.plan.specs.rules.Site.{Site, noSite, placeOf, placesOf, nameTaken, placeTaken, Listed}
-use Rattle.plan.specs.rules.Enter.{listed-none}
-use Rattle.plan.specs.code.Taken.{siteOf, ShortNames, namesTaken, placesTaken}
-use Rattle.plan.specs.code.TakenLaws.{names-of-sites, places-of-sites}
-use Rattle.plan.specs.rules.Plan.{nameRecord, namesHeld, placesHeld, unplaced, placed, sitesIn, Valid, is-unplaced, is-placed, answerIn}
-use Rattle.plan.specs.rules.Plan.{sites-unplaced, sites-placed, placed-answer}
-
--- A plan's count, names and places are those of these sites, which are by the rules.
-pub record Holding (plan : Plan) (sites : List Site) : Type 0 where
-  pub listed : Listed sites
-  pub count : plan .count ≡ length sites
-  pub names : plan .names ≡ namesHeld sites
-  pub places : plan .places ≡ placesHeld sites
-
--- A plan that the calls hand back holds its sites.
-pub valid-holding : {plan : Plan} → Valid plan → Holding plan (sitesIn plan)
-unfolding unplaced placed
-valid-holding (is-unplaced sites listed) =
-    rw (sites-unplaced sites) (record { listed = listed; count = refl; names = refl; places = refl })
-valid-holding (is-placed sites listed some-sites) =
-    rw (sites-placed sites) (record { listed = listed; count = refl; names = refl; places = refl })
+use Rattle.plan.specs.rules.Text.{mostNameBytes}
+use Rattle.plan.specs.rules.List.{Site, noSite, placeOf, placesOf, nameTaken, placeTaken}
+use Rattle.plan.specs.calls.Plan.{nameOf, nameHeld, nameRecord, namesHeld, placesHeld, unplacedPlan, placedPlan, Valid, is-unplaced}
+use Rattle.plan.specs.theorems.Text.{name-short}
+use Rattle.plan.specs.theorems.Sites.{listed-none, listed-in-range}
+use Rattle.plan.specs.theorems.Plan.{Holding}
+use Rattle.plan.specs.code.Taken.{siteOf, ShortNames, namesTaken, placesTaken, names-of-sites, places-of-sites}
 
 -- A plan that is not placed, from its count, names and places.
 abbrev pub unplacedOf : ℕ → List Name → List Place → Plan
@@ -45,8 +29,8 @@ unplacedOf count names places =
     record { count = count; names = names; places = places; placed = false; side = Free; corners = replicate mostSites 0 }
 
 -- With every slot empty it is the plan of no sites.
-pub empty-started : {none : Name} → none ≡ nameOf [] → unplacedOf 0 (replicate mostSites none) (replicate mostSites nowhere) ≡ unplaced []
-unfolding unplaced
+pub empty-started : {none : Name} → none ≡ nameOf [] → unplacedOf 0 (replicate mostSites none) (replicate mostSites nowhere) ≡ unplacedPlan []
+unfolding unplacedPlan
 empty-started e = ap (λ (name : Name). unplacedOf 0 (replicate mostSites name) (replicate mostSites nowhere)) e
 
 -- and so one that the calls hand back.
@@ -66,7 +50,7 @@ holding-short {plan} {sites} holding = rw (holding .count, holding .names) (reco
               (omega (arith, length-map sites nameRecord)),
           List·getD-map nameRecord sites i noSite,
         )
-        (name-short (getD sites i noSite .name) (holding .listed .named i below))
+        (name-short (getD sites i noSite .name) (holding .listed .by-rules i below .named))
 
 -- Its places, the empty slots left out.
 pub holding-places : {plan : Plan} {sites : List Site} → Holding plan sites → take (plan .count) (plan .places) ≡ placesOf sites
@@ -101,11 +85,11 @@ held-more {A} f d sites site room =
     ∙ ap₂ (λ (l : List A) (n : ℕ). l ++ replicate n d) (sym (map-append f sites (site ∷ []))) left
 
 -- The plan with a name and a place more is that of the sites with one more.
-pub holding-more : {plan : Plan} {sites : List Site} → Holding plan sites → (name : Name) (place : Place) → name ≡ nameOf (bytesOf name)
+pub holding-more : {plan : Plan} {sites : List Site} → Holding plan sites → (name : Name) (place : Place) → name ≡ nameOf (nameHeld name)
     → plan .count < mostSites
     → unplacedOf (plan .count + 1) (set (plan .names) (plan .count) name) (set (plan .places) (plan .count) place)
-    ≡ unplaced (sites ++ (siteOf name place ∷ []))
-unfolding unplaced
+    ≡ unplacedPlan (sites ++ (siteOf name place ∷ []))
+unfolding unplacedPlan
 holding-more {plan} {sites} holding name place named room = λ k. unplacedOf (counts k) (names k) (places k)
   where
     fits : length sites < mostSites
@@ -130,8 +114,8 @@ placedOf count names places answer =
 
 -- The plan with the answer for its places is that of its sites, placed.
 pub holding-placed : {plan : Plan} {sites : List Site} → Holding plan sites → (answer : Placed)
-    → answer ≡ placedAs (answerOf (take (plan .count) (plan .places))) → placedOf (plan .count) (plan .names) (plan .places) answer ≡ placed sites
-unfolding placed
+    → answer ≡ placedAs (answerOf (take (plan .count) (plan .places))) → placedOf (plan .count) (plan .names) (plan .places) answer ≡ placedPlan sites
+unfolding placedPlan
 holding-placed {plan} {sites} holding answer e = λ k. placedOf (holding .count k) (holding .names k) (holding .places k) (same k)
   where
     same : answer ≡ placedAs (answerOf (placesOf sites))
@@ -145,25 +129,6 @@ holding-may {plan} {sites} holding table some-sites room =
       some-sites = omega arith;
       few = omega (arith, holding .count, holding .listed .few);
       distinct = rw (holding-places holding) (holding .listed .places-distinct);
-      in-range = rw (holding-places holding) (holding .listed .in-range);
+      in-range = rw (holding-places holding) (listed-in-range (holding .listed));
       room = room;
     }
-
--- ---- the answer of a placed plan
-
--- It holds the answer for the places of its sites,
-pub valid-answer : {plan : Plan} → Valid plan → plan .placed ≡ true → answerIn plan ≡ answerOf (placesOf (sitesIn plan))
-unfolding unplaced
-valid-answer (is-unplaced sites listed) is-so = absurd (false≢true is-so)
-valid-answer (is-placed sites listed some-sites) is-so =
-    placed-answer sites (listed .places-distinct) ∙ ap (λ (l : List Site). answerOf (placesOf l)) (sym (sites-placed sites))
-
--- so its side
-pub valid-side : {plan : Plan} → Valid plan → plan .placed ≡ true → plan .side ≡ answerOf (placesOf (sitesIn plan)) .side
-valid-side valid is-so = ap (λ (a : Answer). a .side) (valid-answer valid is-so)
-
--- and the corner of each site.
-pub valid-corner : {plan : Plan} → Valid plan → plan .placed ≡ true → (i : ℕ) → i < plan .count
-    → getD (plan .corners) i 0 ≡ cornerAt (answerOf (placesOf (sitesIn plan)) .corners) i
-valid-corner {plan} valid is-so i below =
-    sym (getD-take (plan .count) (plan .corners) i 0 below) ∙ ap (λ (a : Answer). cornerAt (a .corners) i) (valid-answer valid is-so)

@@ -9,7 +9,7 @@ use Rattle.placing.specs.rules.Units.{greatestSide, nowhere}
 use Rattle.plan.specs.declared.name.Name.{Name}
 use Rattle.plan.specs.declared.plan.Plan.{Plan}
 use Rattle.plan.specs.rules.Text.{lineFeed}
-use Rattle.plan.specs.rules.Site.{Site}
+use Rattle.plan.specs.rules.List.{Site}
 use Rattle.plan.specs.rules.Sheet.{sideLine, siteLine}
 use Rattle.plan.specs.code.Taken.{siteOf}
 

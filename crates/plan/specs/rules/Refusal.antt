@@ -1,18 +1,20 @@
--- Document 01, "Refused because of the input" and "Refused because of the state".
+-- Document 01, "Refused because of the input" and "Refused because of the state": the numbers, and how a table of tests decides.
 -- Assumes nothing.
-use Prim.Native.Nat.{ℕ, _≤_}
-use native.Mathlib.Omega.{arith}
+use mathlib.Core.Bool.{Bool, true, false}
+use mathlib.Core.List.{List, [], _∷_}
+use mathlib.Core.Option.{Option, some, none}
+use Prim.Native.Nat.{ℕ}
 use Rattle.plan.specs.declared.refusal.Refusal.{Refusal}
-use Rattle.plan.specs.declared.refusal.Refusal.the-variants.{Line, Name, Coordinate, NameTaken, PlaceTaken, NoSuchSite, Full, NoSites, NotPlaced, ShortBuffer, ShortTable}
+use Rattle.plan.specs.declared.refusal.Refusal.the-variants.{BadLine, BadName, BadCoordinate, NameTaken, PlaceTaken, NoSuchSite, Full, NoSites, NotPlaced, ShortBuffer, ShortTable}
 
 -- The number of each refusal.
 abbrev pub numberOf : Refusal → ℕ
 -- a line of other than three fields, over 20 bytes, or without its line feed
-numberOf Line = 1
+numberOf BadLine = 1
 -- a name outside the rule
-numberOf Name = 2
+numberOf BadName = 2
 -- a coordinate outside the rule
-numberOf Coordinate = 3
+numberOf BadCoordinate = 3
 -- a name already in the plan
 numberOf NameTaken = 4
 -- a place already in the plan
@@ -30,22 +32,38 @@ numberOf ShortBuffer = 10
 -- the work table is shorter than n × n
 numberOf ShortTable = 11
 
--- Numbers of refusals go from 1 to 11.
-number-range : (why : Refusal) → (1 ≤ numberOf why) × (numberOf why ≤ 11)
-number-range Line = omega arith
-number-range Name = omega arith
-number-range Coordinate = omega arith
-number-range NameTaken = omega arith
-number-range PlaceTaken = omega arith
-number-range NoSuchSite = omega arith
-number-range Full = omega arith
-number-range NoSites = omega arith
-number-range NotPlaced = omega arith
-number-range ShortBuffer = omega arith
-number-range ShortTable = omega arith
+-- A row of a call's table: a test, and the refusal that is given where it holds.
+pub record Test : Type 0 where
+  pub holds : Bool
+  pub refusal : Refusal
 
-pub number-some : (why : Refusal) → 1 ≤ numberOf why
-number-some why = number-range why .0
+infix 68 _gives_
+abbrev pub _gives_ : Bool → Refusal → Test
+_gives_ holds refusal = record { holds = holds; refusal = refusal }
 
-pub number-small : (why : Refusal) → numberOf why ≤ 11
-number-small why = number-range why .1
+-- The refusal of the first row, in the table's order, whose test holds.
+abbrev pub firstRefusal : List Test → Option Refusal
+firstRefusal [] = none
+firstRefusal (test ∷ tests) = elim (test .holds) [ true ↦ some (test .refusal) | false ↦ firstRefusal tests ]
+
+-- The number of a refusal, 0 where there is none; and the number that a table gives.
+abbrev pub refusalNumber : Option Refusal → ℕ
+refusalNumber none = 0
+refusalNumber (some why) = numberOf why
+
+abbrev pub numberBy : List Test → ℕ
+numberBy tests = refusalNumber (firstRefusal tests)
+
+-- What a call comes to: a value where it is accepted, else a refusal.
+pub data Result (A : Type 0) : Type 0 where
+  accepted : A → Result A
+  refused : Refusal → Result A
+
+-- This value, unless there is a refusal.
+abbrev pub unless : {A : Type 0} → Option Refusal → A → Result A
+unless none value = accepted value
+unless (some why) value = refused why
+
+-- "No refusal is given outside its condition": the value, unless a test of the table holds.
+abbrev pub afterTests : {A : Type 0} → List Test → A → Result A
+afterTests tests value = unless (firstRefusal tests) value

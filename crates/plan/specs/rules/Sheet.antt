@@ -1,251 +1,98 @@
--- Document 01, "List and sheet": "A sheet has first the word side, a tab, and a side, which is a whole number or the word free.
--- Then one line for each site in list order: name, x, y, corner."
+-- Document 01, "List and sheet" and "What demand 3 counts": a sheet, what is read off its bytes, and what the program writes.
 -- Assumes nothing.
-use mathlib.Core.Path.{_≡_, refl, ap, _∙_}
+use mathlib.Core.Bool.{true, false, _&&_}
 use mathlib.Core.List.{List, [], _∷_, _++_}
-use Prim.Native.Nat.{ℕ, suc, _+_, _*_, _≤_, _<_}
-use native.Mathlib.Omega.{arith}
-use lib.ListN.{length, getD, length-append, length-map}
+use mathlib.Core.Option.{Option, none}
+use Prim.Native.Nat.{ℕ}
+use lib.Dec.{eqb}
+use lib.ListN.{length, getD, drop}
 use Rattle.placing.specs.declared.units.Place.{Place}
 use Rattle.placing.specs.declared.units.Side.{Side}
 use Rattle.placing.specs.declared.units.Side.the-variants.{Number, Free}
-use Rattle.placing.specs.rules.Units.{mostSites, freeSide, xOf, yOf}
-use Rattle.placing.specs.rules.Corner.{Corner}
-use Rattle.placing.specs.rules.Corners.{Corners, cornerAt}
-use Rattle.placing.specs.rules.Choice.{Good}
-use Rattle.placing.specs.rules.Answer.{Answer, answerOf, IsAnswer, is-free, is-number, answer-is}
-use Rattle.plan.specs.rules.Text.{tab, lineFeed, linesAfter, linesOf, Without, without-append, lines-more}
-use Rattle.plan.specs.rules.Number.{decimal, mostDigits, decimal-without, decimal-short, decimal-some, decimal-digit}
-use Rattle.plan.specs.rules.Name.{mostNameBytes, name-short, name-some}
-use Rattle.plan.specs.rules.Site.{Site, placesOf, placeOf, noSite, Listed, ByRules, place-at}
-use Rattle.plan.specs.rules.List.{listLine, line-without}
+use Rattle.placing.specs.rules.Answer.{Answer}
+use Rattle.plan.specs.rules.Text.{tab, lineFeed, parted, fieldsOf, decimal, numberIn, sameBytes}
+use Rattle.plan.specs.rules.List.{Site, placeIn, listLine}
 
--- The word side.
+-- ---- a sheet
+
+-- "The word side", "the word free".
 abbrev pub sideWord : List ℕ
 sideWord = 115 ∷ 105 ∷ 100 ∷ 101 ∷ []
 
--- The word free.
 abbrev pub freeWord : List ℕ
 freeWord = 102 ∷ 114 ∷ 101 ∷ 101 ∷ []
 
--- A side as text.
+-- "A side, which is a whole number or the word free."
 abbrev pub sideText : Side → List ℕ
 sideText (Number side) = decimal (side .0)
 sideText Free = freeWord
 
--- The lines of the sites with these corners.
-unfoldable pub siteLines : List Site → List ℕ → List ℕ
-siteLines [] corners = []
-siteLines (site ∷ sites) [] = []
-siteLines (site ∷ sites) (corner ∷ corners) = listLine site ++ (tab ∷ decimal corner) ++ (lineFeed ∷ siteLines sites corners)
-
--- The sheet of some sites with an answer.
-unfoldable pub sheetWith : List Site → Answer → List ℕ
-sheetWith sites answer = sideWord ++ (tab ∷ sideText (answer .side)) ++ (lineFeed ∷ siteLines sites (answer .corners))
-
--- The sheet of some sites: with the answer for their places.
-unfoldable pub sheetOf : List Site → List ℕ
-sheetOf sites = sheetWith sites (answerOf (placesOf sites))
-
--- ---- what the answer's part of a sheet is
-
--- The corners of an answer are corners, one for each site.
-pub answer-corners : {ps : List Place} {a : Answer} → IsAnswer ps a → Corners (length ps) (a .corners)
-answer-corners (is-free first) = first .good .corners
-answer-corners (is-number none-free least most first above) = first .good .corners
-
--- A side is written in at most five bytes,
-side-short : {ps : List Place} {a : Answer} → IsAnswer ps a → length (sideText (a .side)) ≤ mostDigits
-side-short (is-free first) = omega arith
-side-short (is-number {h} none-free least most first above) = decimal-short h (omega arith)
-
--- in one at least,
-side-some : (side : Side) → 1 ≤ length (sideText side)
-side-some (Number side) = decimal-some (side .0)
-side-some Free = omega arith
-
--- and none of them is below the digits: no tab and no line feed.
-pub side-without : (b : ℕ) → b < 48 → (side : Side) → Without b (sideText side)
-side-without b below (Number side) = decimal-without (side .0) b below
-side-without b below Free = (omega arith, (omega arith, (omega arith, (omega arith, tt))))
-
--- A label that is alone is good at every side.
-alone-good : (h : ℕ) (p : Place) → Good h (p ∷ []) (1 ∷ [])
-alone-good h p =
-    record {
-      corners = record { one-each = refl; corner = λ i listed. rw (first i listed) (record { least = omega arith; most = omega arith }) };
-      uncrowded = λ i listed crowded. crowded .different (omega (arith, crowded .listed));
-      apart = λ i j listed other differ meet. omega arith;
-    }
-  where
-    first : (i : ℕ) → i < 1 → i ≡ 0
-    first i listed = omega arith
-
--- So the side of one site is the word free.
-alone-free : {p : Place} {a : Answer} → IsAnswer (p ∷ []) a → 4 ≤ length (sideText (a .side))
-alone-free (is-free first) = omega arith
-alone-free {p} (is-number none-free least most first above) = absurd (none-free (1 ∷ []) (alone-good freeSide p))
-
--- ---- the lines of a sheet
-
--- Sites by the rules, and a corner for each.
-pub data Lined : List Site → List ℕ → Type 0 where
-  no-line : Lined [] []
-  one-more : {site : Site} {sites : List Site} {corner : ℕ} {corners : List ℕ} → ByRules site → Corner corner → Lined sites corners
-      → Lined (site ∷ sites) (corner ∷ corners)
-
--- They are such from their numbers in list order.
-lined : (sites : List Site) (corners : List ℕ) → length corners ≡ length sites
-    → ((i : ℕ) → i < length sites → ByRules (getD sites i noSite)) → ((i : ℕ) → i < length sites → Corner (cornerAt corners i))
-    → Lined sites corners
-lined [] [] same rules corner = no-line
-lined [] (c ∷ corners) same rules corner = absurd (omega arith)
-lined (site ∷ sites) [] same rules corner = absurd (omega arith)
-lined (site ∷ sites) (c ∷ corners) same rules corner =
-    one-more (rules 0 (omega arith)) (corner 0 (omega arith))
-    (lined sites corners (omega arith) (λ i l. rules (suc i) (omega arith)) (λ i l. corner (suc i) (omega arith)))
-
--- The sites of a plan with the corners of their answer.
-pub answer-lined : (sites : List Site) → Listed sites → Lined sites (answerOf (placesOf sites) .corners)
-answer-lined sites listed =
-    lined sites (answerOf (placesOf sites) .corners) (corners .one-each ∙ length-map sites placeOf)
-    (λ i l.
-    record {
-      named = listed .named i l;
-      x-fits = rw (← place-at sites i) (listed .in-range .x-range i (within i l));
-      y-fits = rw (← place-at sites i) (listed .in-range .y-range i (within i l));
-    })
-    (λ i l. corners .corner i (within i l))
-  where
-    corners : Corners (length (placesOf sites)) (answerOf (placesOf sites) .corners)
-    corners = answer-corners (answer-is (placesOf sites) (listed .places-distinct))
-
-    within : (i : ℕ) → i < length sites → i < length (placesOf sites)
-    within i l = rw length-map l
-
--- The first line of a sheet.
+-- "First the word side, a tab, and a side."
 abbrev pub sideLine : Side → List ℕ
 sideLine side = sideWord ++ (tab ∷ sideText side)
 
--- The line of a site with its corner.
+-- "Then one line for each site in list order: name, x, y, corner."
 abbrev pub siteLine : Site → ℕ → List ℕ
 siteLine site corner = listLine site ++ (tab ∷ decimal corner)
 
--- One line for each site.
-unfoldable pub lineOfEach : List Site → List ℕ → List (List ℕ)
-lineOfEach [] corners = []
-lineOfEach (site ∷ sites) [] = []
-lineOfEach (site ∷ sites) (corner ∷ corners) = siteLine site corner ∷ lineOfEach sites corners
+unfoldable pub siteLines : List Site → List ℕ → List ℕ
+siteLines [] corners = []
+siteLines (site ∷ sites) [] = []
+siteLines (site ∷ sites) (corner ∷ corners) = siteLine site corner ++ (lineFeed ∷ siteLines sites corners)
 
--- No line has a line feed in it: not the first,
-side-line-whole : (side : Side) → Without lineFeed (sideLine side)
-side-line-whole side =
-    without-append lineFeed sideWord (tab ∷ sideText side) (omega arith, (omega arith, (omega arith, (omega arith, tt))))
-    (omega arith, side-without lineFeed (omega arith) side)
+-- The sheet of some sites with an answer, which has a corner for each of them.
+unfoldable pub sheetWith : List Site → Answer → List ℕ
+sheetWith sites answer = sideLine (answer .side) ++ (lineFeed ∷ siteLines sites (answer .corners))
 
--- and not that of a site.
-site-line-whole : {site : Site} (corner : ℕ) → ByRules site → Without lineFeed (siteLine site corner)
-site-line-whole {site} corner rules =
-    without-append lineFeed (listLine site) (tab ∷ decimal corner) (line-without site rules)
-    (omega arith, decimal-without corner lineFeed (omega arith))
+-- ---- what is read off the bytes of a sheet
 
--- The lines under the first are those of the sites.
-site-lines : {sites : List Site} {corners : List ℕ} → Lined sites corners → linesOf (siteLines sites corners) ≡ lineOfEach sites corners
-unfolding siteLines lineOfEach linesAfter
-site-lines no-line = refl
-site-lines (one-more {site} {sites} {corner} {corners} rules c rest) =
-    lines-more (siteLine site corner) (siteLines sites corners) (site-line-whole corner rules)
-    ∙ ap (λ (l : List (List ℕ)). siteLine site corner ∷ l) (site-lines rest)
+-- All parts but the last.
+abbrev pub butLast : List (List ℕ) → List (List ℕ)
+butLast [] = []
+butLast (part ∷ []) = []
+butLast (part ∷ next ∷ parts) = part ∷ butLast (next ∷ parts)
 
--- A sheet's lines are its side's, then one for each site.
-pub sheet-lines : (sites : List Site) → Listed sites
-    → linesOf (sheetOf sites) ≡ sideLine (answerOf (placesOf sites) .side) ∷ lineOfEach sites (answerOf (placesOf sites) .corners)
-unfolding sheetOf sheetWith
-sheet-lines sites listed =
-    lines-more (sideLine side) (siteLines sites corners) (side-line-whole side)
-    ∙ ap (λ (l : List (List ℕ)). sideLine side ∷ l) (site-lines (answer-lined sites listed))
-  where
-    side : Side
-    side = answerOf (placesOf sites) .side
+-- The lines of a sheet: each is ended by a line feed, so that nothing stands behind the last.
+abbrev pub linesOf : List ℕ → List (List ℕ)
+linesOf sheet = butLast (parted lineFeed sheet)
 
-    corners : List ℕ
-    corners = answerOf (placesOf sites) .corners
+-- The number in the fields of a first line. None where the fields are others or the side is no number, as the word free.
+abbrev pub numberOnFields : List (List ℕ) → Option ℕ
+numberOnFields fields =
+    elim (eqb (length fields) 2 && sameBytes (getD fields 0 []) sideWord) [ true ↦ numberIn (getD fields 1 []) | false ↦ none ]
 
--- ---- how long a sheet is
+-- "Its number is the side it prints": the number on the first line, if one is written there.
+abbrev pub numberOn : List ℕ → Option ℕ
+numberOn sheet = numberOnFields (fieldsOf (getD (linesOf sheet) 0 []))
 
--- The most bytes of the first line: the word side, a tab, five digits, a line feed.
-abbrev pub longestSideLine : ℕ
-longestSideLine = 4 + 1 + mostDigits + 1
+-- The place that each line writes. A line with fewer than three fields, or one that is no number, would give 0; no written sheet has one.
+unfoldable pub spotsOnLines : List (List ℕ) → List Place
+spotsOnLines [] = []
+spotsOnLines (line ∷ lines) = placeIn (fieldsOf line) ∷ spotsOnLines lines
 
--- The most bytes of the line of a site: a name, two numbers of five digits, a corner, each with a tab or line feed behind it.
-abbrev pub longestSiteLine : ℕ
-longestSiteLine = (mostNameBytes + 1) + 2 * (mostDigits + 1) + (1 + 1)
+-- "Its spots are the x and y on the site lines under it."
+abbrev pub spotsOn : List ℕ → List Place
+spotsOn sheet = spotsOnLines (drop 1 (linesOf sheet))
 
--- The least: a byte for each of the four, with a tab or line feed behind it.
-abbrev pub shortestSiteLine : ℕ
-shortestSiteLine = 4 * (1 + 1)
+-- Fields put together again, with a tab between each two.
+abbrev pub joined : List (List ℕ) → List ℕ
+joined [] = []
+joined (field ∷ []) = field
+joined (field ∷ next ∷ fields) = field ++ (tab ∷ joined (next ∷ fields))
 
--- How many bytes the line of a site has, with its line feed.
-record Sized (n : ℕ) : Type 0 where
-  least : shortestSiteLine ≤ n + 1
-  most : n + 1 ≤ longestSiteLine
+-- "Leaving out the first line and, of each other line, the last field with the tab before it gives the list back."
+unfoldable pub carriedLines : List (List ℕ) → List ℕ
+carriedLines [] = []
+carriedLines (line ∷ lines) = joined (butLast (fieldsOf line)) ++ (lineFeed ∷ carriedLines lines)
 
--- The names, coordinates and corners by the rules make it so.
-line-sized : {site : Site} {corner : ℕ} → ByRules site → Corner corner → Sized (length (siteLine site corner))
-unfolding listLine
-line-sized {site} {corner} rules c =
-    let one : length (decimal corner) ≡ 1 = ap length (decimal-digit corner (omega arith)) in
-    let x = decimal-short (xOf (site .place)) (omega arith) in
-    let y = decimal-short (yOf (site .place)) (omega arith) in
-    let x-some = decimal-some (xOf (site .place)) in
-    let y-some = decimal-some (yOf (site .place)) in
-    let name = name-short (site .name) (rules .named) in
-    let name-is-some = name-some (site .name) (rules .named) in
-    record { least = simp length-append (omega arith); most = simp length-append (omega arith) }
+abbrev pub carried : List ℕ → List ℕ
+carried sheet = carriedLines (drop 1 (linesOf sheet))
 
--- No sheet is longer: a bound, which is never reached.
-abbrev pub longestSheet : ℕ
-longestSheet = longestSideLine + mostSites * longestSiteLine
+-- ---- what the placing program writes
 
--- So the lines of the sites have at most 23 bytes each, with their line feeds,
-lines-longest : {sites : List Site} {corners : List ℕ} → Lined sites corners → length (siteLines sites corners) ≤ longestSiteLine * length sites
-unfolding siteLines
-lines-longest no-line = omega arith
-lines-longest (one-more {site} {sites} {corner} {corners} rules c rest) =
-    let line = line-sized rules c in
-    let more = lines-longest rest in
-    omega (arith, length-append (siteLine site corner) (lineFeed ∷ siteLines sites corners))
+-- "A refusal is written as the word refused, a tab, the number, a line feed."
+abbrev pub refusedWord : List ℕ
+refusedWord = 114 ∷ 101 ∷ 102 ∷ 117 ∷ 115 ∷ 101 ∷ 100 ∷ []
 
--- and at least 8.
-lines-shortest : {sites : List Site} {corners : List ℕ} → Lined sites corners → shortestSiteLine * length sites ≤ length (siteLines sites corners)
-unfolding siteLines
-lines-shortest no-line = omega arith
-lines-shortest (one-more {site} {sites} {corner} {corners} rules c rest) =
-    let line = line-sized rules c in
-    let more = lines-shortest rest in
-    omega (arith, length-append (siteLine site corner) (lineFeed ∷ siteLines sites corners))
-
--- The longest sheet.
-pub sheet-longest : (sites : List Site) → Listed sites → length (sheetOf sites) ≤ longestSheet
-unfolding sheetOf sheetWith
-sheet-longest sites listed =
-    let side = side-short (answer-is (placesOf sites) (listed .places-distinct)) in
-    let lines = lines-longest (answer-lined sites listed) in
-    simp length-append (omega (arith, listed .few))
-
--- No sheet is shorter: the word side, a tab, the word free, a line feed, and the line of one site.
-abbrev pub shortestSheet : ℕ
-shortestSheet = 4 + 1 + 4 + 1 + shortestSiteLine
-
--- One site is free, and more sites have more lines.
-pub sheet-shortest : (sites : List Site) → Listed sites → 1 ≤ length sites → shortestSheet ≤ length (sheetOf sites)
-unfolding sheetOf sheetWith
-sheet-shortest [] listed nonempty = absurd (omega arith)
-sheet-shortest (site ∷ []) listed nonempty =
-    let side = alone-free (answer-is (placesOf (site ∷ [])) (listed .places-distinct)) in
-    let lines = lines-shortest (answer-lined (site ∷ []) listed) in
-    simp length-append (omega arith)
-sheet-shortest (site ∷ next ∷ sites) listed nonempty =
-    let side = side-some (answerOf (placesOf (site ∷ next ∷ sites)) .side) in
-    let lines = lines-shortest (answer-lined (site ∷ next ∷ sites) listed) in
-    simp length-append (omega arith)
+abbrev pub refusalLine : ℕ → List ℕ
+refusalLine number = refusedWord ++ (tab ∷ decimal number) ++ (lineFeed ∷ [])

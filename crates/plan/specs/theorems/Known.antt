@@ -14,23 +14,26 @@ use borrow.Author.Tests.{le-ltb, ne-eqb}
 use lib.Dec.{T, eqb, lit≤}
 use lib.ListN.{length}
 use Rattle.placing.specs.declared.units.Place.{Place}
-use Rattle.placing.specs.rules.Tests.{eq-decides, both-decide, not-decides}
-use Rattle.placing.specs.rules.Answer.{Answer, answerOf, numbered, unbounded}
 use Rattle.placing.specs.rules.Choice.{MeetingPair}
-use Rattle.placing.specs.theorems.Twice.{meetingTest, meeting-decides, meeting-larger}
-use Rattle.placing.specs.theorems.Checked.{checkedTest, checked-right, passed, both-passed}
+use Rattle.placing.specs.rules.Answer.{Answer, numbered, free}
+use Rattle.placing.specs.deciding.Tests.{eq-decides, both-decide, not-decides, meetingTest, meeting-decides}
+use Rattle.placing.specs.deciding.Answer.{answerOf}
+use Rattle.placing.specs.theorems.FactorTwo.{meeting-larger}
+use Rattle.placing.specs.theorems.CheckedAnswer.{checkedTest, checked-right, passed, both-passed}
 use Rattle.plan.specs.declared.refusal.Outcome.the-variants.{Done, Refused}
 use Rattle.plan.specs.declared.refusal.Outcome.{Outcome}
 use Rattle.plan.specs.declared.refusal.Refusal.{Refusal}
 use Rattle.plan.specs.declared.refusal.Refusal.the-variants.{NoSites}
 use Rattle.plan.specs.declared.plan.Plan.{Plan}
 use Rattle.plan.specs.declared.plan.Planned.{Planned}
-use Rattle.plan.specs.rules.Refusal.{numberOf}
-use Rattle.plan.specs.rules.Name.{isName, nameBytes, sameBytes}
-use Rattle.plan.specs.rules.Site.{Site, placeAt, placesOf, nameTaken, placeTaken, Listed}
-use Rattle.plan.specs.rules.Enter.{Sites, accepted, refused, appended, entered, entered-listed, listed-none}
-use Rattle.plan.specs.rules.Plan.{unplaced, placed, answerIn, placed-answer, sites-unplaced}
-use Rattle.plan.specs.rules.Calls.{started, plannedOr, enteredIn, placedIn}
+use Rattle.plan.specs.rules.Refusal.{numberOf, Result, accepted, refused}
+use Rattle.plan.specs.rules.Text.{isName, allNameBytes, sameBytes}
+use Rattle.plan.specs.rules.List.{Site, placeAt, placesOf, Listed, entered, wantedAt}
+use Rattle.plan.specs.calls.Plan.{unplacedPlan, placedPlan}
+use Rattle.plan.specs.calls.Answers.{started, handed, enteredIn, placedIn}
+use Rattle.plan.specs.theorems.Sites.{listed-none}
+use Rattle.plan.specs.theorems.Entering.{entered-listed}
+use Rattle.plan.specs.theorems.Plan.{answerIn, placed-answer, sites-unplaced}
 use Rattle.plan.specs.theorems.HandedBack.{entered-more}
 
 -- A name and two numbers to enter.
@@ -64,10 +67,10 @@ at letter x y = record { name = letter ∷ []; x = x; y = y }
 -- Document 01's cases, in its order, and placing a plan of no sites.
 abbrev pub rows : List Row
 rows =
-    row (at 65 5 5 ∷ []) (answered (unbounded (1 ∷ [])))
-    ∷ row (at 65 0 0 ∷ at 66 1 0 ∷ []) (answered (unbounded (2 ∷ 1 ∷ [])))
-    ∷ row (at 65 0 0 ∷ at 66 1 0 ∷ at 67 0 1 ∷ at 68 1 1 ∷ []) (answered (unbounded (3 ∷ 4 ∷ 2 ∷ 1 ∷ [])))
-    ∷ row (at 65 0 0 ∷ at 66 1 1 ∷ at 67 2 2 ∷ at 68 3 3 ∷ []) (answered (unbounded (3 ∷ 2 ∷ 4 ∷ 1 ∷ [])))
+    row (at 65 5 5 ∷ []) (answered (free (1 ∷ [])))
+    ∷ row (at 65 0 0 ∷ at 66 1 0 ∷ []) (answered (free (2 ∷ 1 ∷ [])))
+    ∷ row (at 65 0 0 ∷ at 66 1 0 ∷ at 67 0 1 ∷ at 68 1 1 ∷ []) (answered (free (3 ∷ 4 ∷ 2 ∷ 1 ∷ [])))
+    ∷ row (at 65 0 0 ∷ at 66 1 1 ∷ at 67 2 2 ∷ at 68 3 3 ∷ []) (answered (free (3 ∷ 2 ∷ 4 ∷ 1 ∷ [])))
     ∷ row (at 65 0 0 ∷ at 66 1 1 ∷ at 67 2 2 ∷ at 68 3 3 ∷ at 69 4 4 ∷ []) (answered (numbered 4 (2 ∷ 4 ∷ 2 ∷ 4 ∷ 1 ∷ [])))
     ∷ record {
       entries = at 65 10 10 ∷ at 66 10 14 ∷ at 67 10 20 ∷ [];
@@ -77,7 +80,7 @@ rows =
     ∷ row
     (at 65 0 0 ∷ at 66 1 0 ∷ at 67 2 0 ∷ at 68 0 1 ∷ at 69 1 1 ∷ at 70 2 1 ∷ at 71 0 2 ∷ at 72 1 2 ∷ at 73 2 2 ∷ [])
     (answered (numbered 1 (1 ∷ 1 ∷ 1 ∷ 1 ∷ 1 ∷ 1 ∷ 1 ∷ 1 ∷ 1 ∷ [])))
-    ∷ row (at 65 10000 10000 ∷ []) (answered (unbounded (1 ∷ [])))
+    ∷ row (at 65 10000 10000 ∷ []) (answered (free (1 ∷ [])))
     ∷ row (at 65 10001 0 ∷ []) (refusedAt 0 3)
     ∷ row (at 65 0 10001 ∷ []) (refusedAt 0 3)
     ∷ row (at 65 5 5 ∷ at 66 5 5 ∷ []) (refusedAt 1 5)
@@ -118,7 +121,7 @@ data Run : Type 0 where
   stopped : (i : ℕ) → Refusal → Run
 
 -- What follows an entry: nothing where it is refused.
-abbrev runOn : (List Site → Run) → ℕ → Sites → Run
+abbrev runOn : (List Site → Run) → ℕ → Result (List Site) → Run
 runOn next i (accepted sites) = next sites
 runOn next i (refused why) = stopped i why
 
@@ -126,7 +129,7 @@ runOn next i (refused why) = stopped i why
 abbrev runFrom : ℕ → List Site → List Entry → Run
 runFrom i [] [] = stopped i NoSites
 runFrom i (site ∷ sites) [] = through (site ∷ sites)
-runFrom i sites (entry ∷ entries) = runOn (λ more. runFrom (suc i) more entries) i (entered sites (entry .name) (entry .x) (entry .y))
+runFrom i sites (entry ∷ entries) = runOn (λ more. runFrom (suc i) more entries) i (entered sites (wantedAt (entry .name) (entry .x) (entry .y)))
 
 -- All sites have the answer for their places; a refusal is its number.
 abbrev endOf : Run → End
@@ -137,8 +140,8 @@ endOf (stopped i why) = refusedAt i (numberOf why)
 module _ (table : List ℕ) (most : ℕ) (enough : most * most ≤ length table) where
   -- Placing sites that are listed.
   placing-run : (i : ℕ) (sites : List Site) → Listed sites → length sites ≤ most
-      → leadsFrom table i (unplaced sites) [] ≡ endOf (runFrom i sites [])
-  unfolding unplaced
+      → leadsFrom table i (unplacedPlan sites) [] ≡ endOf (runFrom i sites [])
+  unfolding unplacedPlan
   placing-run i [] listed few = refl
   placing-run i (site ∷ sites) listed few =
       rw (
@@ -146,25 +149,25 @@ module _ (table : List ℕ) (most : ℕ) (enough : most * most ≤ length table)
         le-ltb (length table) (length (site ∷ sites) * length (site ∷ sites)) (le-trans (mul-le-mul few few) enough),
       )
       (ap answered
-      (ap (λ (held : List Site). answerIn (placed held)) (sites-unplaced (site ∷ sites))
+      (ap (λ (held : List Site). answerIn (placedPlan held)) (sites-unplaced (site ∷ sites))
       ∙ placed-answer (site ∷ sites) (listed .places-distinct)))
 
   -- The calls on plans lead where the sites by themselves do.
   leads-run : (i : ℕ) (sites : List Site) → Listed sites → (entries : List Entry) → length sites + length entries ≤ most
-      → leadsFrom table i (unplaced sites) entries ≡ endOf (runFrom i sites entries)
+      → leadsFrom table i (unplacedPlan sites) entries ≡ endOf (runFrom i sites entries)
   leads-run i sites listed [] few = placing-run i sites listed (omega arith)
   leads-run i sites listed (entry ∷ entries) few =
       rw (sites-unplaced sites)
-      (step (λ more each fewer. leads-run (suc i) more each entries fewer) (entered sites (entry .name) (entry .x) (entry .y)) refl)
+      (step (λ more each fewer. leads-run (suc i) more each entries fewer) (entered sites (wantedAt (entry .name) (entry .x) (entry .y))) refl)
     where
       step : ((more : List Site) → Listed more → length more + length entries ≤ most
-          → leadsFrom table (suc i) (unplaced more) entries ≡ endOf (runFrom (suc i) more entries))
-          → (after : Sites) → entered sites (entry .name) (entry .x) (entry .y) ≡ after
-          → onward (λ more. leadsFrom table (suc i) more entries) i (plannedOr (unplaced sites) after)
+          → leadsFrom table (suc i) (unplacedPlan more) entries ≡ endOf (runFrom (suc i) more entries))
+          → (after : Result (List Site)) → entered sites (wantedAt (entry .name) (entry .x) (entry .y)) ≡ after
+          → onward (λ more. leadsFrom table (suc i) more entries) i (handed unplacedPlan (unplacedPlan sites) after)
           ≡ endOf (runOn (λ more. runFrom (suc i) more entries) i after)
       step further (accepted more) e =
-          further more (entered-listed sites (entry .name) (entry .x) (entry .y) more listed e)
-          (omega (arith, entered-more sites (entry .name) (entry .x) (entry .y) more e))
+          further more (entered-listed (entry .name) (entry .x) (entry .y) listed e)
+          (omega (arith, entered-more sites (entry .name) (entry .x) (entry .y) e))
       step further (refused why) e = refl
 
 -- ---- the test of a row
@@ -203,7 +206,7 @@ row-passed (first ∷ rows) test row member =
 -- So every row of the table does: antt computes it.
 known-passed : (row : Row) → List·Memᴰ row rows
     → T (endTest (runFrom 0 [] (row .entries)) (row .end)) × T (apartTest (spots (row .entries)) (row .end) (row .apart-to))
-unfolding entered appended isName nameBytes sameBytes nameTaken placeTaken
+unfolding isName allNameBytes sameBytes
 known-passed row member =
     both-passed (endTest (runFrom 0 [] (row .entries)) (row .end)) (apartTest (spots (row .entries)) (row .end) (row .apart-to))
     (row-passed rows tt row member)

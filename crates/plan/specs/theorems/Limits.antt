@@ -3,11 +3,9 @@
 -- Assumes nothing.
 use mathlib.Core.Path.{_≡_, refl}
 use Rattle.placing.specs.rules.Units.{mostSites, greatestCoordinate, greatestSide, freeSide}
-use Rattle.plan.specs.rules.Text.{mostLineBytes}
-use Rattle.plan.specs.rules.Name.{mostNameBytes}
-use Rattle.plan.specs.rules.List.{longestText}
-use Rattle.plan.specs.rules.Sheet.{longestSheet, shortestSheet}
-use Rattle.plan.specs.rules.Calls.{fullTable}
+use Rattle.plan.specs.rules.Text.{mostNameBytes}
+use Rattle.plan.specs.rules.List.{mostLineBytes, longestText}
+use Rattle.plan.specs.calls.Lengths.{fullTable, longestSheet, shortestSheet}
 
 -- Document 01's.
 pub limits-given : (mostSites ≡ 240) × (greatestCoordinate ≡ 10000) × (greatestSide ≡ 20000) × (freeSide ≡ 20001) × (mostNameBytes ≡ 8)

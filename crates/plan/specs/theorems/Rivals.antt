@@ -9,13 +9,13 @@ use native.Mathlib.Omega.{arith}
 use lib.ListN.{length}
 use Rattle.placing.specs.declared.units.Place.{Place}
 use Rattle.placing.specs.rules.Units.{siteAt, Distinct}
-use Rattle.placing.specs.rules.Corners.{cornerAt, Corners}
-use Rattle.placing.specs.rules.Cover.{Point, Covers}
-use Rattle.placing.specs.rules.Choice.{MeetingPair}
-use Rattle.placing.specs.rules.Answer.{Answer, numbered, sideNumber, IsAnswer, answer-unique}
-use Rattle.placing.specs.theorems.Common.{meet-exactly}
-use Rattle.plan.specs.rules.Site.{Site, Listed, placesOf}
-use Rattle.plan.specs.rules.ReadOff.{numberOn, spotsOn}
+use Rattle.placing.specs.rules.Label.{Point, Covers}
+use Rattle.placing.specs.rules.Choice.{cornerAt, Corners, MeetingPair}
+use Rattle.placing.specs.rules.Answer.{Answer, numbered, sideNumber, IsAnswer}
+use Rattle.placing.specs.theorems.Answer.{answer-unique}
+use Rattle.placing.specs.theorems.CommonPoint.{meet-exactly}
+use Rattle.plan.specs.rules.List.{Site, Listed, placesOf}
+use Rattle.plan.specs.rules.Sheet.{numberOn, spotsOn}
 use Rattle.plan.specs.Demands.{NoRival, RightSheet}
 
 -- The labels of some two of these places, at these corners and the side p/q, cover a common point.

@@ -2,7 +2,7 @@
 use borrow.Author.Needs.{needs}
 use mathlib.Core.Path.{sym}
 use lib.Seq.{length-take-le}
-use Rattle.plan.specs.theorems.OutputLaws.{output-within}
+use Rattle.plan.specs.theorems.Output.{output-within}
 use Rattle.brute_force.proofs.product.put_output.Statement.{statement}
 use Rattle.brute_force.proofs.product.put_output.Tie as tie
 

@@ -4,7 +4,7 @@ use borrow.Author.Needs.{needs}
 use Prim.Native.Nat.{ℕ, _-_}
 use mathlib.Core.Path.{_≡_}
 use lib.ListN.{length, length-replicate}
-use Rattle.plan.specs.rules.Plan.{Valid}
+use Rattle.plan.specs.calls.Plan.{Valid}
 use Rattle.known_answers.proofs.cases.asked_all.Statement.{statement}
 use Rattle.known_answers.proofs.cases.asked_all.Tie as tie
 

@@ -5,13 +5,13 @@ use Prim.Native.Nat.{_≤_}
 use native.Mathlib.Omega.{arith}
 use lib.ListN.{length}
 use borrow.Author.Needs.{needs}
-use Rattle.place.specs.Input.{roomLeft, Reads, none-yet, once-more}
+use Rattle.place.specs.Input.{roomLeft, InputReads, none-yet, once-more}
 use Rattle.place.specs.InputLaws.{left-inside, left-falls}
 use Rattle.place.proofs.answer.read_input.Statement.{statement}
 use Rattle.place.proofs.answer.read_input.Tie as tie
 
 abbrev Inv-loop : tie.InvT-loop
-Inv-loop text₀ reading₀ text reading = (reading .at ≤ length text) × (length text ≡ length text₀) × Reads text₀ reading text
+Inv-loop text₀ reading₀ text reading = (reading .at ≤ length text) × (length text ≡ length text₀) × InputReads text₀ reading text
 
 abbrev μ-loop : tie.MeasureT-loop
 μ-loop text₀ reading₀ text reading = roomLeft reading text

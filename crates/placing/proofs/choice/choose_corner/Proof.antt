@@ -7,9 +7,9 @@ use borrow.Author.Needs.{needs}
 use Rattle.placing.specs.search.Walk.{walk-decided-add-one}
 use Rattle.placing.specs.code.Asks.{MayDecide}
 use Rattle.placing.specs.code.Labels.{labels}
-use Rattle.placing.specs.code.Ways.{Kept}
+use Rattle.placing.specs.code.Ways.{Kept, up-to-more}
 use Rattle.placing.specs.code.Marks.{kept-same, kept-twice}
-use Rattle.placing.specs.code.Walking.{RefusedUpTo, refused-none, refused-more, takes-corner, takes-none, walked-to}
+use Rattle.placing.specs.code.Walking.{RefusedUpTo, refused-none, takes-corner, takes-none, walked-to}
 use Rattle.placing.proofs.choice.choose_corner.Statement.{statement}
 use Rattle.placing.proofs.choice.choose_corner.Tie as tie
 
@@ -82,7 +82,7 @@ loop-again c =
         listed = may .listed;
         undecided = rw (tried .decided-back failed) (may .undecided);
       },
-      rw (tried .ways-back failed) (refused-more (at-loop .loop .e) (so-far .3) (tried .refused failed)),
+      rw (tried .ways-back failed) (up-to-more _ (at-loop .loop .e) (so-far .3) (tried .refused failed)),
     )
 
 same-length-2 : tie.Need-same-length-2 Inv-loop μ-loop

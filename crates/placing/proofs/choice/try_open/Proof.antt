@@ -4,7 +4,8 @@ use mathlib.Core.Path.{_∙_}
 use native.Mathlib.Omega.{arith}
 use borrow.Author.Needs.{needs}
 use Rattle.placing.specs.code.Marks.{kept-same}
-use Rattle.placing.specs.code.Walking.{row-next, tried-shut}
+use Rattle.placing.specs.search.Rows.{row-next}
+use Rattle.placing.specs.code.Walking.{tried-shut}
 use Rattle.placing.proofs.choice.try_open.Statement.{statement}
 use Rattle.placing.proofs.choice.try_open.Tie as tie
 

@@ -2,12 +2,12 @@
 -- Assumes nothing.
 use mathlib.Core.Path.{_≡_, refl, _∙_}
 use mathlib.Core.List.{List, [], _∷_}
-use Prim.Native.Nat.{ℕ, zero, suc, _+_, _-_, _*_}
-use native.Mathlib.Omega.{arith}
+use Prim.Native.Nat.{ℕ, _+_, _-_, _*_}
 use lib.Dec.{eqb}
 use lib.ListN.{getD}
 use Rattle.placing.specs.declared.corner.Directions.{Directions}
 use Rattle.placing.specs.rules.Corner.{Corner, directionsOf, upWhere}
+use Rattle.placing.specs.theorems.Corner.{each-corner}
 use borrow.Author.Needs.{needs}
 use Rattle.placing.proofs.corner.directions_of.Statement.{statement}
 use Rattle.placing.proofs.corner.directions_of.Tie as tie
@@ -15,16 +15,14 @@ use Rattle.placing.proofs.corner.directions_of.Tie as tie
 table : List ℕ
 table = 1 ∷ 1 ∷ 0 ∷ 1 ∷ 0 ∷ 0 ∷ 1 ∷ 0 ∷ []
 
+abbrev offTable : ℕ → Directions
+offTable c =
+    record { x = upWhere (eqb (getD table (2 * (c - 1)) 0) 1); y = upWhere (eqb (getD table (2 * (c - 1) + 1) 0) 1) }
+
 -- what stands in the table for each of the four corners
-off-table : (c : ℕ) → Corner c
-    → _≡_ {A = Directions} (record { x = upWhere (eqb (getD table (2 * (c - 1)) 0) 1); y = upWhere (eqb (getD table (2 * (c - 1) + 1) 0) 1) }) (directionsOf c)
+off-table : {c : ℕ} → Corner c → offTable c ≡ directionsOf c
 unfolding table
-off-table zero k = absurd (omega arith)
-off-table (suc zero) k = refl
-off-table (suc (suc zero)) k = refl
-off-table (suc (suc (suc zero))) k = refl
-off-table (suc (suc (suc (suc zero)))) k = refl
-off-table (suc (suc (suc (suc (suc c))))) k = absurd (omega arith)
+off-table = each-corner (λ c. offTable c ≡ directionsOf c) refl refl refl refl
 
 sub-at : tie.Need-sub-at
 sub-at c = search needs
@@ -51,7 +49,7 @@ returns : tie.Need-returns
 unfolding table
 returns c =
     (λ i. record { x = c .before .direction-from .ensures i; y = c .direction-from2 .ensures i })
-    ∙ off-table (c .before .before .args .corner) (c .before .before .pre)
+    ∙ off-table (c .before .before .pre)
 
 pub directions-of-spec : {M : Type 1} → statement M
 directions-of-spec =

@@ -1,9 +1,8 @@
--- `crowding::crowding_of` meets its contract. The loop's invariant: the arrays have the reaches of the sites below `i`.
+-- `crowding::crowding_of` meets its contract. The loop's invariant: the array has the reaches of the sites below `i`.
 -- Assumes nothing.
-use Prim.Native.Nat.{_≤_, _-_}
 use native.Mathlib.Omega.{arith}
 use mathlib.Core.Path.{refl}
-use borrow.Author.Needs.{needs}
+use Prim.Native.Nat.{_≤_, _-_}
 use Rattle.placing.specs.code.Sites.{sitesOf, held-at, length-sites}
 use Rattle.placing.specs.code.Crowding.{CrowdingBelow, crowding-none, crowding-more, crowding-all}
 use Rattle.placing.proofs.crowding.crowding_of.Statement.{statement}
@@ -16,18 +15,15 @@ abbrev μ-loop : tie.MeasureT-loop
 μ-loop xs ys n crowding₀ i₀ crowding i = n - i
 
 loop-holds : tie.Need-loop-holds Inv-loop μ-loop
-loop-holds c = (omega arith, crowding-none refl refl refl refl (omega arith))
+loop-holds c = (omega arith, crowding-none refl (omega arith))
 
 reaches-of-requires : tie.Need-reaches-of-requires Inv-loop μ-loop
 reaches-of-requires c κs =
     let at-loop = c .before in
     (held-at _ (at-loop .loop .inv .1 .reaches .judged) (at-loop .before .pre), c .loop-test .taken)
 
-top-of-requires : tie.Need-top-of-requires Inv-loop μ-loop
-top-of-requires c κs = search needs
-
 with-site-requires : tie.Need-with-site-requires Inv-loop μ-loop
-with-site-requires c κs = omega arith
+with-site-requires c κs = (c .before .before .loop .inv .1 .size, omega arith)
 
 add-i : tie.Need-add-i Inv-loop μ-loop
 add-i c = omega arith
@@ -37,15 +33,13 @@ loop-less c = omega arith
 
 loop-again : tie.Need-loop-again Inv-loop μ-loop
 loop-again c =
-    let at-top = c .before in
-    let found = at-top .before in
+    let found = c .before in
     let at-loop = found .before .before in
     let asked = at-loop .before .args in
     let count = length-sites (asked .n) (asked .xs .now) (asked .ys .now) in (
       omega arith,
-      rw (c .with-site .ensures)
-          (crowding-more (omega arith) (omega arith) (at-loop .loop .inv .1) (found .reaches-of .ensures .0) (found .reaches-of .ensures .1)
-          (at-top .top-of .ensures)),
+      crowding-more (omega arith) (at-loop .loop .inv .1) (found .reaches-of .ensures .0) (found .reaches-of .ensures .1)
+          (c .with-site .ensures),
     )
 
 returns : tie.Need-returns Inv-loop μ-loop
@@ -59,7 +53,6 @@ crowding-of-spec =
     μ-loop
     loop-holds
     reaches-of-requires
-    top-of-requires
     with-site-requires
     add-i
     loop-less

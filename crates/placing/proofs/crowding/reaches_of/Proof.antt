@@ -1,7 +1,7 @@
 -- `crowding::reaches_of` meets its contract. The loop's invariant: `reaches` has the reaches over the sites below `j`.
 -- Assumes nothing.
-use Prim.Native.Nat.{_≤_, _-_}
 use native.Mathlib.Omega.{arith}
+use Prim.Native.Nat.{_≤_, _-_}
 use borrow.Author.Needs.{needs}
 use Rattle.placing.specs.code.Sites.{sitesOf, length-sites, held-place}
 use Rattle.placing.specs.code.Reach.{SiteAmong, site-within, site-none, site-more, site-all}
@@ -14,20 +14,20 @@ Inv-loop xs ys n i top s reaches₀ j₀ reaches j = (j ≤ n) × SiteAmong (sit
 abbrev μ-loop : tie.MeasureT-loop
 μ-loop xs ys n i top s reaches₀ j₀ reaches j = n - j
 
-mul-place-of : tie.Need-mul-place-of Inv-loop μ-loop
-mul-place-of c = omega arith
+mul-place-at : tie.Need-mul-place-at Inv-loop μ-loop
+mul-place-at c = omega arith
 
-element-copy-out-place-of : tie.Need-element-copy-out-place-of Inv-loop μ-loop
-element-copy-out-place-of c = omega arith
+element-copy-out-place-at : tie.Need-element-copy-out-place-at Inv-loop μ-loop
+element-copy-out-place-at c = omega arith
 
-mul-place-of-2 : tie.Need-mul-place-of-2 Inv-loop μ-loop
-mul-place-of-2 c = omega arith
+mul-place-at-2 : tie.Need-mul-place-at-2 Inv-loop μ-loop
+mul-place-at-2 c = omega arith
 
-element-copy-out-place-of-2 : tie.Need-element-copy-out-place-of-2 Inv-loop μ-loop
-element-copy-out-place-of-2 c = omega arith
+element-copy-out-place-at-2 : tie.Need-element-copy-out-place-at-2 Inv-loop μ-loop
+element-copy-out-place-at-2 c = omega arith
 
-place-of-requires : tie.Need-place-of-requires Inv-loop μ-loop
-place-of-requires c κs = search needs
+place-at-requires : tie.Need-place-at-requires Inv-loop μ-loop
+place-at-requires c κs = search needs
 
 doubled-requires : tie.Need-doubled-requires Inv-loop μ-loop
 doubled-requires c κs = search needs
@@ -35,20 +35,20 @@ doubled-requires c κs = search needs
 loop-holds : tie.Need-loop-holds Inv-loop μ-loop
 loop-holds c = (omega arith, site-none (c .doubled .result) (c .doubled .ensures))
 
-mul-place-of-3 : tie.Need-mul-place-of-3 Inv-loop μ-loop
-mul-place-of-3 c = omega arith
+mul-place-at-3 : tie.Need-mul-place-at-3 Inv-loop μ-loop
+mul-place-at-3 c = omega arith
 
-element-copy-out-place-of-3 : tie.Need-element-copy-out-place-of-3 Inv-loop μ-loop
-element-copy-out-place-of-3 c = omega arith
+element-copy-out-place-at-3 : tie.Need-element-copy-out-place-at-3 Inv-loop μ-loop
+element-copy-out-place-at-3 c = omega arith
 
-mul-place-of-4 : tie.Need-mul-place-of-4 Inv-loop μ-loop
-mul-place-of-4 c = omega arith
+mul-place-at-4 : tie.Need-mul-place-at-4 Inv-loop μ-loop
+mul-place-at-4 c = omega arith
 
-element-copy-out-place-of-4 : tie.Need-element-copy-out-place-of-4 Inv-loop μ-loop
-element-copy-out-place-of-4 c = omega arith
+element-copy-out-place-at-4 : tie.Need-element-copy-out-place-at-4 Inv-loop μ-loop
+element-copy-out-place-at-4 c = omega arith
 
-place-of-requires-2 : tie.Need-place-of-requires-2 Inv-loop μ-loop
-place-of-requires-2 c κs = search needs
+place-at-requires-2 : tie.Need-place-at-requires-2 Inv-loop μ-loop
+place-at-requires-2 c κs = search needs
 
 passed-requires : tie.Need-passed-requires Inv-loop μ-loop
 passed-requires c κs =
@@ -56,8 +56,8 @@ passed-requires c κs =
     let place = turn .before .before .before in
     let start = place .before .before .before in
     let held = start .pre .0 in (
-      rw (place .place-of .ensures) (held-place held (start .pre .1) .on-plan),
-      rw (c .place-of2 .ensures) (held-place held (turn .loop-test .taken) .on-plan),
+      rw (place .place-at .ensures) (held-place held (start .pre .1) .on-plan),
+      rw (c .place-at2 .ensures) (held-place held (turn .loop-test .taken) .on-plan),
       record { judged = held .judged },
       site-within (turn .before .loop .inv .1),
     )
@@ -76,8 +76,8 @@ loop-again c =
     let place = turn .before .before .before in
     let start = place .before .before .before in (
       omega arith,
-      site-more (start .args .xs .now) (start .args .ys .now) (start .pre .0 .judged) (start .pre .1) (turn .loop-test .taken) (turn .before .loop .inv .1)
-          (rw (← place .place-of .ensures, ← c .before .place-of2 .ensures) (c .passed .ensures)),
+      site-more (start .args .xs .now) (start .args .ys .now) (start .pre .1) (turn .loop-test .taken) (turn .before .loop .inv .1)
+          (rw (← place .place-at .ensures, ← c .before .place-at2 .ensures) (c .passed .ensures)),
     )
 
 returns : tie.Need-returns Inv-loop μ-loop
@@ -94,18 +94,18 @@ reaches-of-spec =
     (tie.spec
     Inv-loop
     μ-loop
-    mul-place-of
-    element-copy-out-place-of
-    mul-place-of-2
-    element-copy-out-place-of-2
-    place-of-requires
+    mul-place-at
+    element-copy-out-place-at
+    mul-place-at-2
+    element-copy-out-place-at-2
+    place-at-requires
     doubled-requires
     loop-holds
-    mul-place-of-3
-    element-copy-out-place-of-3
-    mul-place-of-4
-    element-copy-out-place-of-4
-    place-of-requires-2
+    mul-place-at-3
+    element-copy-out-place-at-3
+    mul-place-at-4
+    element-copy-out-place-at-4
+    place-at-requires-2
     passed-requires
     add-j
     loop-less

@@ -1,65 +1,55 @@
--- `fresh::fresh_state` meets its contract. The loop's invariant: the bytes of the sites below `i` are written.
+-- `fresh::fresh_state` meets its contract. The loop's invariant: the bytes before `at` are written.
 -- Assumes nothing.
-use Prim.Native.Nat.{_≤_, _-_}
+use mathlib.Core.Path.{_≡_}
 use native.Mathlib.Omega.{arith}
-use mathlib.Core.Path.{_≡_, refl}
-use Rattle.placing.specs.code.Fresh.{OpenedBelow, opened-none, opened-more, fresh-all}
+use borrow.Author.Needs.{needs}
+use Prim.Native.Nat.{_*_, _≤_, _-_}
+use Rattle.placing.specs.code.Filled.{filled-none, filled-next}
+use Rattle.placing.specs.code.Fresh.{OpenedBelow, fresh-all}
 use Rattle.placing.proofs.fresh.fresh_state.Statement.{statement}
 use Rattle.placing.proofs.fresh.fresh_state.Tie as tie
 
 abbrev Inv-loop : tie.InvT-loop
-Inv-loop n side crowding ways₀ i₀ ways i = (i ≤ n) × OpenedBelow crowding (side .0) i ways
+Inv-loop n side crowding ways₀ at₀ at-end ways at = (at ≤ 4 * n) × OpenedBelow crowding (side .0) at ways
 
 abbrev μ-loop : tie.MeasureT-loop
-μ-loop n side crowding ways₀ i₀ ways i = n - i
+μ-loop n side crowding ways₀ at₀ at-end ways at = 4 * n - at
+
+mul-at-end : tie.Need-mul-at-end Inv-loop μ-loop
+mul-at-end c = search needs
 
 loop-holds : tie.Need-loop-holds Inv-loop μ-loop
-loop-holds c = (omega arith, opened-none refl)
+loop-holds c = (omega arith, filled-none)
 
-mul-open-row : tie.Need-mul-open-row Inv-loop μ-loop
-mul-open-row c = omega arith
+mul-is-open : tie.Need-mul-is-open Inv-loop μ-loop
+mul-is-open c = search needs
 
-element-copy-out-open-row : tie.Need-element-copy-out-open-row Inv-loop μ-loop
-element-copy-out-open-row c = omega arith
+element-copy-out-is-open : tie.Need-element-copy-out-is-open Inv-loop μ-loop
+element-copy-out-is-open c = search needs
 
-mul-open-row-2 : tie.Need-mul-open-row-2 Inv-loop μ-loop
-mul-open-row-2 c = omega arith
+is-open-requires : tie.Need-is-open-requires Inv-loop μ-loop
+is-open-requires c κs = search needs
 
-element-copy-out-open-row-2 : tie.Need-element-copy-out-open-row-2 Inv-loop μ-loop
-element-copy-out-open-row-2 c = omega arith
+array-write-ways : tie.Need-array-write-ways Inv-loop μ-loop
+array-write-ways c = search needs
 
-mul-open-row-3 : tie.Need-mul-open-row-3 Inv-loop μ-loop
-mul-open-row-3 c = omega arith
-
-element-copy-out-open-row-3 : tie.Need-element-copy-out-open-row-3 Inv-loop μ-loop
-element-copy-out-open-row-3 c = omega arith
-
-mul-open-row-4 : tie.Need-mul-open-row-4 Inv-loop μ-loop
-mul-open-row-4 c = omega arith
-
-element-copy-out-open-row-4 : tie.Need-element-copy-out-open-row-4 Inv-loop μ-loop
-element-copy-out-open-row-4 c = omega arith
-
-open-row-requires : tie.Need-open-row-requires Inv-loop μ-loop
-open-row-requires c κs = omega arith
-
-add-i : tie.Need-add-i Inv-loop μ-loop
-add-i c = omega arith
+add-at : tie.Need-add-at Inv-loop μ-loop
+add-at c = omega arith
 
 loop-less : tie.Need-loop-less Inv-loop μ-loop
 loop-less c = omega arith
 
 loop-again : tie.Need-loop-again Inv-loop μ-loop
 loop-again c =
-    let turn = c .before .before .before .before .before .before .before in
-    (omega arith, opened-more (turn .loop .inv .1) (c .open-row .ensures))
+    let at-loop = c .before .before .before in
+    (omega arith, filled-next (at-loop .loop .inv .1) (omega arith) (c .is-open .ensures))
 
 returns : tie.Need-returns Inv-loop μ-loop
 returns c =
-    let at-end = c .before in
-    let start = at-end .before in
-    let all : at-end .loop .i ≡ start .args .n = omega arith in
-    fresh-all (start .pre .0) (rw all at (at-end .loop .inv .1))
+    let at-loop = c .before in
+    let start = at-loop .before in
+    let end : at-loop .loop .at ≡ 4 * start .args .n = omega arith in
+    fresh-all (start .pre .0) (rw end at (at-loop .loop .inv .1))
 
 pub fresh-state-spec : {M : Type 1} → statement M
 fresh-state-spec =
@@ -67,17 +57,13 @@ fresh-state-spec =
     (tie.spec
     Inv-loop
     μ-loop
+    mul-at-end
     loop-holds
-    mul-open-row
-    element-copy-out-open-row
-    mul-open-row-2
-    element-copy-out-open-row-2
-    mul-open-row-3
-    element-copy-out-open-row-3
-    mul-open-row-4
-    element-copy-out-open-row-4
-    open-row-requires
-    add-i
+    mul-is-open
+    element-copy-out-is-open
+    is-open-requires
+    array-write-ways
+    add-at
     loop-less
     loop-again
     returns)

@@ -1,68 +1,72 @@
--- `placing::geometry::overlap` meets its contract: labels that face each other overlap where one lies ahead of the other.
+-- `placing::geometry::overlap` meets its contract: labels that go the same way by their distance, labels that face each other by order too.
 -- Assumes nothing.
+use mathlib.Core.Path.{_≡_}
+use mathlib.Core.Logic.{⊎-elim}
+use Rattle.placing.specs.declared.corner.Direction.{Direction}
+use Rattle.placing.specs.rules.Corner.{opposite}
 use native.Mathlib.Omega.{arith}
-use Rattle.placing.specs.rules.Decides.{decides-same}
+use Rattle.placing.specs.deciding.Decides.{decides-same, decides-second, decides-no}
+use Rattle.placing.specs.deciding.Tests.{ways, same-way-decides, facing-decides}
 use borrow.Author.Needs.{needs}
 use Rattle.placing.proofs.geometry.overlap.Statement.{statement}
 use Rattle.placing.proofs.geometry.overlap.Tie as tie
 
-enum-told : tie.Need-enum-told
-enum-told c = search needs
+-- directions that are not the same are opposite
+against : {d e : Direction} → (d ≡ e → ⊥) → opposite d ≡ e
+against {d} {e} differ = ⊎-elim (λ same. absurd (differ same)) (λ opposed. opposed) (ways d e)
 
-enum-told-2 : tie.Need-enum-told-2
-enum-told-2 c = search needs
+same-direction-requires : tie.Need-same-direction-requires
+same-direction-requires c κs = search needs
 
-same-way-requires : tie.Need-same-way-requires
-same-way-requires c κs = search needs
+distance-requires : tie.Need-distance-requires
+distance-requires c κs = search needs
 
-enum-told-3 : tie.Need-enum-told-3
-enum-told-3 c = search needs
-
-from-to-requires : tie.Need-from-to-requires
-from-to-requires c κs = search needs
-
-enum-told-4 : tie.Need-enum-told-4
-enum-told-4 c = search needs
-
-enum-told-5 : tie.Need-enum-told-5
-enum-told-5 c = search needs
-
-from-to-requires-2 : tie.Need-from-to-requires-2
-from-to-requires-2 c κs = search needs
-
-enum-told-6 : tie.Need-enum-told-6
-enum-told-6 c = search needs
-
-same-way-requires-2 : tie.Need-same-way-requires-2
-same-way-requires-2 c κs = search needs
+below-requires : tie.Need-below-requires
+below-requires c κs = search needs
 
 returns : tie.Need-returns
-returns c = rw (c .before .before .before .enum-told .given .1, c .before .enum-told2 .given .1) (c .same-way .ensures)
+returns c =
+    let tested = c .before .before in
+    same-way-decides (tested .before .same-direction .ensures .yes-holds (tested .if1 .taken))
+    (decides-same (λ near. omega arith) (λ near. omega arith) (c .below .ensures))
+
+onward-requires : tie.Need-onward-requires
+onward-requires c κs = search needs
+
+distance-requires-2 : tie.Need-distance-requires-2
+distance-requires-2 c κs = search needs
+
+doubled-requires : tie.Need-doubled-requires
+doubled-requires c κs = search needs
+
+below-requires-2 : tie.Need-below-requires-2
+below-requires-2 c κs = search needs
 
 returns-2 : tie.Need-returns-2
-returns-2 c = rw (c .before .before .before .enum-told .given .1, c .before .enum-told3 .given .1) (decides-same (λ h. omega arith) (λ h. omega arith) (c .from-to .ensures))
+returns-2 c =
+    let tested = c .before .before .before in
+    let asked = tested .before .before in
+    facing-decides (against (asked .before .same-direction .ensures .no-fails (asked .if1 .left)))
+    (decides-second (tested .before .onward .ensures .yes-holds (tested .if2 .taken))
+    (decides-same (λ near. omega arith) (λ near. omega arith) (c .below2 .ensures)) (λ onward near. (onward, near)) (λ r. r .1))
 
 returns-3 : tie.Need-returns-3
-returns-3 c = rw (c .before .before .before .enum-told4 .given .1, c .before .enum-told5 .given .1) (decides-same (λ h. omega arith) (λ h. omega arith) (c .from-to2 .ensures))
-
-returns-4 : tie.Need-returns-4
-returns-4 c = rw (c .before .before .before .enum-told4 .given .1, c .before .enum-told6 .given .1) (c .same-way2 .ensures)
+returns-3 c =
+    let asked = c .before .before in
+    facing-decides (against (asked .before .same-direction .ensures .no-fails (asked .if1 .left)))
+    (decides-no (λ r. c .before .onward .ensures .no-fails (c .if2 .left) (r .0)))
 
 pub overlap-spec : {M : Type 1} → statement M
 overlap-spec =
     tie.close
     (tie.spec
-    enum-told
-    enum-told-2
-    same-way-requires
-    enum-told-3
-    from-to-requires
-    enum-told-4
-    enum-told-5
-    from-to-requires-2
-    enum-told-6
-    same-way-requires-2
+    same-direction-requires
+    distance-requires
+    below-requires
     returns
+    onward-requires
+    distance-requires-2
+    doubled-requires
+    below-requires-2
     returns-2
-    returns-3
-    returns-4)
+    returns-3)

@@ -8,9 +8,10 @@ use native.Mathlib.Omega.{arith}
 use lib.ListN.{replicate}
 use Rattle.placing.specs.declared.side.Placed.{Placed}
 use Rattle.placing.specs.declared.units.Place.{Place}
-use Rattle.placing.specs.rules.Answer.{answerOf, sideNumber}
+use Rattle.placing.specs.rules.Answer.{sideNumber}
+use Rattle.placing.specs.deciding.Answer.{answerOf}
 use Rattle.placing.specs.code.Marks.{kept-further}
-use Rattle.placing.specs.rules.Placing.{placedAs}
+use Rattle.placing.specs.calls.Placing.{placedAs}
 use Rattle.placing.specs.code.Placed.{may-find}
 use borrow.Author.Needs.{needs}
 use Rattle.placing.proofs.place.place_labels.Statement.{statement}

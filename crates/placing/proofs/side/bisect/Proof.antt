@@ -27,16 +27,20 @@ loop-holds c =
     let may = c .before .before .before .pre in
     (kept-same, between-starts _ (may .distinct) (length-sites _ _ _) (may .held .few) (may .crowding-is .none-above))
 
+below-requires : tie.Need-below-requires Inv-loop μ-loop
+below-requires c κs = search needs
+
 narrow-requires : tie.Need-narrow-requires Inv-loop μ-loop
 narrow-requires c κs =
-    let at-loop = c .before .before .before in
+    let tested = c .before in
+    let at-loop = tested .before .before in
     let may = at-loop .before .before .before .before .pre in
     record {
       held = may .held;
       room = rw (at-loop .loop .inv .0 .size) (may .room);
       crowding-is = may .crowding-is;
       between-is = at-loop .loop .inv .1;
-      left = omega arith;
+      left = omega (arith, tested .before .below .ensures .yes-holds (tested .if1 .taken));
     }
 
 loop-less : tie.Need-loop-less Inv-loop μ-loop
@@ -61,9 +65,11 @@ returns : tie.Need-returns Inv-loop μ-loop
 returns c =
     let at-end = c .before .before .before in
     let at-loop = at-end .before .before in
-    let may = at-loop .before .before .before .before .pre in (
+    let may = at-loop .before .before .before .before .pre in
+    let last = at-end .before .below .ensures .no-fails (at-end .if1 .left) in (
       (λ k. record { side = c .side-of .result; corners = c .before .first-corners .ensures k })
-          ∙ between-ends (may .crowding-is .judged) (may .distinct) (length-sites _ _ _) (at-loop .loop .inv .1) (omega arith) (c .side-of .ensures),
+          ∙ between-ends (may .crowding-is .judged) (may .distinct) (length-sites _ _ _) (at-loop .loop .inv .1) (omega arith)
+          (c .side-of .ensures),
       at-loop .loop .inv .0,
     )
 
@@ -75,6 +81,7 @@ bisect-spec =
     μ-loop
     add-t11
     loop-holds
+    below-requires
     narrow-requires
     loop-less
     loop-again

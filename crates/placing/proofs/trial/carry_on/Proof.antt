@@ -7,7 +7,7 @@ use borrow.Author.Tests.{not-true, not-false}
 use Rattle.placing.specs.code.Labels.{labels}
 use Rattle.placing.specs.code.Ways.{Waits}
 use Rattle.placing.specs.code.Marks.{unmarkedBelow, mark-fewer, kept-set}
-use Rattle.placing.specs.code.Onward.{CarryingOn, carrying-starts, carrying-ends, carrying-on, carrying-stuck, may-carry-out}
+use Rattle.placing.specs.code.CarryOn.{CarryingOn, carrying-starts, carrying-ends, carrying-on, carrying-stuck, may-carry-out}
 use Rattle.placing.proofs.trial.carry_on.Statement.{statement}
 use Rattle.placing.proofs.trial.carry_on.Tie as tie
 
@@ -44,7 +44,8 @@ found c =
 
 -- It waits.
 found-waits : (c : tie.Else1 Inv-loop μ-loop)
-    → let at-loop = c .before .before .before .before in Waits (at-loop .loop .decided) (at-loop .loop .marks) (c .before .first-waiting .result)
+    → let at-loop = c .before .before .before .before in
+    Waits (at-loop .loop .decided) (at-loop .loop .marks) (c .before .first-waiting .result)
 found-waits c = c .before .first-waiting .ensures .found (found c)
 
 mark-and-carry-requires : tie.Need-mark-and-carry-requires Inv-loop μ-loop

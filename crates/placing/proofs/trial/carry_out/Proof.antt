@@ -9,7 +9,8 @@ use Rattle.placing.proofs.trial.carry_out.Statement.{statement}
 use Rattle.placing.proofs.trial.carry_out.Tie as tie
 
 abbrev Inv-loop : tie.InvT-loop
-Inv-loop xs ys n side ways₀ decided₀ k c j₀ ways decided j = (j ≤ n) × CarriedBelow (labels (side .0) n xs ys) ways₀ decided₀ k j ways decided
+Inv-loop xs ys n side ways₀ decided₀ k c j₀ ways decided j =
+    (j ≤ n) × CarriedBelow (labels (side .0) n xs ys) ways₀ decided₀ k j ways decided
 
 abbrev μ-loop : tie.MeasureT-loop
 μ-loop xs ys n side ways₀ decided₀ k c j₀ ways decided j = n - j

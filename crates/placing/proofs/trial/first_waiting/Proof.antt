@@ -24,7 +24,7 @@ returns : tie.Need-returns Inv-loop μ-loop
 returns c =
     record {
       at-most = omega arith;
-      found = λ h. c .before .waits .ensures .yes-holds (c .if1 .taken);
+      found = λ below. c .before .waits .ensures .yes-holds (c .if1 .taken);
       none-before = c .before .before .before .loop .inv .1;
     }
 
@@ -43,8 +43,8 @@ returns-2 : tie.Need-returns-2 Inv-loop μ-loop
 returns-2 c =
     record {
       at-most = omega arith;
-      found = λ h. absurd (omega arith);
-      none-before = λ j h. c .before .loop .inv .1 j (omega arith);
+      found = λ below. absurd (omega arith);
+      none-before = λ j earlier. c .before .loop .inv .1 j (omega arith);
     }
 
 pub first-waiting-spec : {M : Type 1} → statement M

@@ -1,73 +1,79 @@
--- `placing::trial::left_of` meets its contract: each way out knows which bytes are 1, and a law on rows of four bytes says what is left.
+-- `trial::left_of` meets its contract. The loop's invariant: `left` counts the open corners up to `e`.
 -- Assumes nothing.
 use mathlib.Core.Path.{_≡_, sym, _∙_}
-use mathlib.Core.Bool.{true, false, true≢false}
-use mathlib.Core.Logic.{_≢_, ⊎-elim}
+use mathlib.Core.Logic.{⊎-elim}
 use native.Mathlib.Omega.{arith}
-use lib.Dec.{eqb}
 use borrow.Author.Needs.{needs}
-use borrow.Author.Tests.{eqb-true, eqb-false}
-use Rattle.placing.specs.search.Rows.{rowAt}
-use Rattle.placing.specs.search.State.{SomeOpen}
-use Rattle.placing.specs.code.Ways.{lone-row, none-row, some-row, left-by}
+use Prim.Native.Nat.{_≤_, _-_}
+use Rattle.placing.specs.search.Rows.{rowOf, row-next}
+use Rattle.placing.specs.code.Ways.{LeftUpTo, left-none, left-open, left-shut, left-all}
 use Rattle.placing.proofs.trial.left_of.Statement.{statement}
 use Rattle.placing.proofs.trial.left_of.Tie as tie
 
-one-or-more-requires : tie.Need-one-or-more-requires
-one-or-more-requires c κs = search needs
+abbrev Inv-loop : tie.InvT-loop
+Inv-loop ways j left₀ e₀ left e = (e ≤ 4) × LeftUpTo (rowOf ways j) e left
 
-returns : tie.Need-returns
+abbrev μ-loop : tie.MeasureT-loop
+μ-loop ways j left₀ e₀ left e = 4 - e
+
+loop-holds : tie.Need-loop-holds Inv-loop μ-loop
+loop-holds c = (omega arith, left-none _ _)
+
+mul-if1 : tie.Need-mul-if1 Inv-loop μ-loop
+mul-if1 c = search needs
+
+add-if1 : tie.Need-add-if1 Inv-loop μ-loop
+add-if1 c = search needs
+
+element-copy-out-if1 : tie.Need-element-copy-out-if1 Inv-loop μ-loop
+element-copy-out-if1 c = search needs
+
+add-one-more : tie.Need-add-one-more Inv-loop μ-loop
+add-one-more c = search needs
+
+cast-one-more : tie.Need-cast-one-more Inv-loop μ-loop
+cast-one-more c = search needs
+
+one-more-requires : tie.Need-one-more-requires Inv-loop μ-loop
+one-more-requires c κs = search needs
+
+add-e : tie.Need-add-e Inv-loop μ-loop
+add-e c = omega arith
+
+loop-less : tie.Need-loop-less Inv-loop μ-loop
+loop-less c = omega arith
+
+loop-again : tie.Need-loop-again Inv-loop μ-loop
+loop-again c =
+    let tested = c .before in
+    let at-loop = tested .before .before in
+    let asked = at-loop .before .args in
+    let byte = row-next (asked .ways .now) (asked .j) (at-loop .loop .e) (omega arith) in (
+      omega arith,
+      ⊎-elim (λ came. rw (came .2 ∙ came .1 .ensures) (left-open (at-loop .loop .inv .1) (byte ∙ came .0 .taken)))
+          (λ came. rw (came .1) (left-shut (at-loop .loop .inv .1) (λ is-open. came .0 .left (sym byte ∙ is-open)))) (c .if1 .came),
+    )
+
+returns : tie.Need-returns Inv-loop μ-loop
 returns c =
-    let at = c .before .before .before .before .args in
-    let first = c .before .before .if2 .came in
-    let last = c .before .if3 .came in
-    let two-or-three : c .before .before .if2 .if3 ≡ true → SomeOpen (rowAt (at .a) (at .b) (at .c) (at .d)) =
-    λ e. ⊎-elim (λ w. some-row 1 2 (omega arith)) (λ w. some-row 1 3 (omega (arith, eqb-true (at .c) 1 (sym (w .1) ∙ e)))) first in
-    let neither : c .before .before .if2 .if3 ≡ false → (at .b ≢ 1) × (at .c ≢ 1) =
-    λ e. ⊎-elim (λ w. absurd (eqb-false (at .b) 1 (sym (w .1) ∙ e) (w .0 .taken))) (λ w. (w .0 .left, eqb-false (at .c) 1 (sym (w .1) ∙ e))) first in
-    rw (c .one-or-more .ensures)
-    (left-by 1 _
-    (λ e. ⊎-elim (λ w. two-or-three (w .0 .taken)) (λ w. some-row 1 4 (omega (arith, eqb-true (at .d) 1 (sym (w .1) ∙ e)))) last)
-    (λ e. ⊎-elim (λ w. absurd (true≢false (sym (w .0 .taken) ∙ sym (w .1) ∙ e)))
-    (λ w. lone-row _ _ _ _ 1 (omega (arith, neither (w .0 .left), eqb-false (at .d) 1 (sym (w .1) ∙ e)))) last))
-
-one-or-more-requires-2 : tie.Need-one-or-more-requires-2
-one-or-more-requires-2 c κs = search needs
-
-returns-2 : tie.Need-returns-2
-returns-2 c =
-    let at = c .before .before .before .before .args in
-    let came = c .before .if5 .came in
-    rw (c .one-or-more2 .ensures)
-    (left-by 2 _
-    (λ e. ⊎-elim (λ w. some-row 2 3 (omega arith)) (λ w. some-row 2 4 (omega (arith, eqb-true (at .d) 1 (sym (w .1) ∙ e)))) came)
-    (λ e. ⊎-elim (λ w. absurd (eqb-false (at .c) 1 (sym (w .1) ∙ e) (w .0 .taken)))
-    (λ w. lone-row _ _ _ _ 2 (omega (arith, eqb-false (at .d) 1 (sym (w .1) ∙ e)))) came))
-
-one-or-more-requires-3 : tie.Need-one-or-more-requires-3
-one-or-more-requires-3 c κs = search needs
-
-returns-3 : tie.Need-returns-3
-returns-3 c =
-    let d = c .before .before .before .before .args .d in
-    rw (c .one-or-more3 .ensures)
-    (left-by 3 (eqb d 1) (λ e. some-row 3 4 (omega (arith, eqb-true d 1 e))) (λ e. lone-row _ _ _ _ 3 (omega (arith, eqb-false d 1 e))))
-
-returns-4 : tie.Need-returns-4
-returns-4 c = lone-row _ _ _ _ 4 (omega arith)
-
-returns-5 : tie.Need-returns-5
-returns-5 c = none-row _ _ _ _ (omega arith)
+    let at-loop = c .before in
+    let end : at-loop .loop .e ≡ 4 = omega arith in
+    left-all _ _ (rw end at (at-loop .loop .inv .1))
 
 pub left-of-spec : {M : Type 1} → statement M
 left-of-spec =
     tie.close
     (tie.spec
-    one-or-more-requires
-    returns
-    one-or-more-requires-2
-    returns-2
-    one-or-more-requires-3
-    returns-3
-    returns-4
-    returns-5)
+    Inv-loop
+    μ-loop
+    loop-holds
+    mul-if1
+    add-if1
+    element-copy-out-if1
+    add-one-more
+    cast-one-more
+    one-more-requires
+    add-e
+    loop-less
+    loop-again
+    returns)

@@ -1,63 +1,73 @@
--- `trial::take_corner` meets its contract: what its writes make of the bytes is a law of specs/code/Carry.
+-- `trial::take_corner` meets its contract. The loop's invariant: the first `e` bytes of the site are 0.
 -- Assumes nothing.
-use Rattle.placing.specs.code.Carry.{taken-corner}
+use mathlib.Core.Path.{_≡_, refl}
+use native.Mathlib.Omega.{arith}
 use borrow.Author.Needs.{needs}
+use Prim.Native.Nat.{_≤_, _-_}
+use Rattle.placing.specs.code.Filled.{filled-none, filled-more}
+use Rattle.placing.specs.code.Carry.{Cleared, taken-corner}
 use Rattle.placing.proofs.trial.take_corner.Statement.{statement}
 use Rattle.placing.proofs.trial.take_corner.Tie as tie
 
-mul-at : tie.Need-mul-at
-mul-at c = search needs
+abbrev Inv-loop : tie.InvT-loop
+Inv-loop ways₀ decided i c e₀ ways e = (e ≤ 4) × Cleared i e ways₀ ways
 
-element-write-ways : tie.Need-element-write-ways
-element-write-ways c = search needs
+abbrev μ-loop : tie.MeasureT-loop
+μ-loop ways₀ decided i c e₀ ways e = 4 - e
 
-add-ways : tie.Need-add-ways
+loop-holds : tie.Need-loop-holds Inv-loop μ-loop
+loop-holds c = (omega arith, filled-none)
+
+mul-ways : tie.Need-mul-ways Inv-loop μ-loop
+mul-ways c = search needs
+
+add-ways : tie.Need-add-ways Inv-loop μ-loop
 add-ways c = search needs
 
-element-write-ways-2 : tie.Need-element-write-ways-2
+element-write-ways : tie.Need-element-write-ways Inv-loop μ-loop
+element-write-ways c = search needs
+
+add-e : tie.Need-add-e Inv-loop μ-loop
+add-e c = omega arith
+
+loop-less : tie.Need-loop-less Inv-loop μ-loop
+loop-less c = omega arith
+
+loop-again : tie.Need-loop-again Inv-loop μ-loop
+loop-again c =
+    let at-loop = c .before in
+    (omega arith, filled-more (at-loop .loop .inv .1) (omega arith) refl)
+
+way-of-requires : tie.Need-way-of-requires Inv-loop μ-loop
+way-of-requires c κs = search needs
+
+element-write-ways-2 : tie.Need-element-write-ways-2 Inv-loop μ-loop
 element-write-ways-2 c = search needs
 
-add-ways-2 : tie.Need-add-ways-2
-add-ways-2 c = search needs
-
-element-write-ways-3 : tie.Need-element-write-ways-3
-element-write-ways-3 c = search needs
-
-add-ways-3 : tie.Need-add-ways-3
-add-ways-3 c = search needs
-
-element-write-ways-4 : tie.Need-element-write-ways-4
-element-write-ways-4 c = search needs
-
-sub-e : tie.Need-sub-e
-sub-e c = search needs
-
-add-e : tie.Need-add-e
-add-e c = search needs
-
-element-write-ways-5 : tie.Need-element-write-ways-5
-element-write-ways-5 c = search needs
-
-element-write-decided : tie.Need-element-write-decided
+element-write-decided : tie.Need-element-write-decided Inv-loop μ-loop
 element-write-decided c = search needs
 
-returns : tie.Need-returns
-returns c = taken-corner _ _ _ _ (c .pre .0) (c .pre .1) (c .pre .2)
+returns : tie.Need-returns Inv-loop μ-loop
+returns c =
+    let at-loop = c .before .before in
+    let start = at-loop .before in
+    let end : at-loop .loop .e ≡ 4 = omega arith in
+    rw (c .way-of .ensures) (taken-corner (start .pre .0) (start .pre .1) (start .pre .2) (rw end at (at-loop .loop .inv .1)))
 
 pub take-corner-spec : {M : Type 1} → statement M
 take-corner-spec =
     tie.close
     (tie.spec
-    mul-at
-    element-write-ways
+    Inv-loop
+    μ-loop
+    loop-holds
+    mul-ways
     add-ways
-    element-write-ways-2
-    add-ways-2
-    element-write-ways-3
-    add-ways-3
-    element-write-ways-4
-    sub-e
+    element-write-ways
     add-e
-    element-write-ways-5
+    loop-less
+    loop-again
+    way-of-requires
+    element-write-ways-2
     element-write-decided
     returns)

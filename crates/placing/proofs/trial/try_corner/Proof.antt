@@ -1,7 +1,7 @@
 -- `placing::trial::try_corner` meets its contract: taking the corner starts a trial, and carrying on ends it; where it fails, the
 -- arrays are put back. Assumes nothing.
 use Rattle.placing.specs.code.Marks.{kept-twice}
-use Rattle.placing.specs.code.Onward.{taken-underway, trial-passes, trial-fails}
+use Rattle.placing.specs.code.CarryOn.{taken-underway, trial-passes, trial-fails}
 use borrow.Author.Needs.{needs}
 use Rattle.placing.proofs.trial.try_corner.Statement.{statement}
 use Rattle.placing.proofs.trial.try_corner.Tie as tie
@@ -22,7 +22,8 @@ carry-on-requires c κs =
       held = asked .held;
       sizes = taken .take-corner .ensures .sizes;
       room = rw (marks .1 .size) (asked .room);
-      underway = taken-underway (asked .closed) (asked .listed) (asked .undecided) (asked .is-open) (taken .take-corner .ensures) (marks .0);
+      underway = taken-underway (asked .closed) (asked .listed) (asked .undecided) (asked .is-open) (taken .take-corner .ensures)
+          (marks .0);
     }
 
 same-length : tie.Need-same-length

@@ -2,7 +2,7 @@
 -- Assumes nothing.
 use borrow.Author.Needs.{needs}
 use borrow.Author.Tests.{not-true, not-false, eqb-true, eqb-false}
-use Rattle.placing.specs.rules.Decides.{decides-no}
+use Rattle.placing.specs.deciding.Decides.{decides-no}
 use Rattle.placing.proofs.trial.waits.Statement.{statement}
 use Rattle.placing.proofs.trial.waits.Tie as tie
 

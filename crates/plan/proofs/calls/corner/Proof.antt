@@ -2,9 +2,9 @@
 -- the array. Assumes nothing.
 use native.Mathlib.Omega.{arith}
 use borrow.Author.Tests.{not-true, not-false}
-use Rattle.plan.specs.code.PlanLaws.{valid-holding}
+use Rattle.plan.specs.theorems.Plan.{valid-holding}
 use Rattle.plan.specs.code.CallLaws.{corner-refused, corner-outside, corner-given}
-use Rattle.plan.specs.theorems.Numbers.{corner-told}
+use Rattle.plan.specs.theorems.Calls.{corner-told}
 use Rattle.plan.proofs.calls.corner.Statement.{statement}
 use Rattle.plan.proofs.calls.corner.Tie as tie
 

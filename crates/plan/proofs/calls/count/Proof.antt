@@ -1,5 +1,5 @@
 -- `count` meets its contract: the plan holds its sites. Assumes nothing.
-use Rattle.plan.specs.code.PlanLaws.{valid-holding}
+use Rattle.plan.specs.theorems.Plan.{valid-holding}
 use Rattle.plan.proofs.calls.count.Statement.{statement}
 use Rattle.plan.proofs.calls.count.Tie as tie
 

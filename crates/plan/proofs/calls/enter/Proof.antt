@@ -2,9 +2,9 @@
 use mathlib.Core.Option.{some}
 use denote.Ref.{now}
 use borrow.Author.Needs.{needs}
-use Rattle.plan.specs.rules.Plan.{sitesIn}
-use Rattle.plan.specs.theorems.Numbers.{enter-told}
-use Rattle.plan.specs.code.FieldLaws.{call-answers, name-fits, place-fits, numbers-as-read}
+use Rattle.plan.specs.calls.Plan.{sitesIn}
+use Rattle.plan.specs.theorems.Calls.{enter-told}
+use Rattle.plan.specs.code.Entering.{PlaceIs, place-read, call-answers, name-fits, entered-as-read}
 use Rattle.plan.proofs.calls.enter.Statement.{statement}
 use Rattle.plan.proofs.calls.enter.Tie as tie
 
@@ -24,26 +24,23 @@ place-at-requires c κs = search needs
 abbrev start-of : tie.After-place-at → tie.Start
 start-of c = c .before .before .before .before .before
 
+-- What was read of the two numbers.
+place-is : (c : tie.After-place-at) → PlaceIs (some (start-of c .args .x)) (some (start-of c .args .y)) (c .place-at .result)
+place-is c = place-read _ _ (c .before .before .coordinate-at .ensures) (c .before .coordinate-at2 .ensures) (c .place-at .ensures)
+
 enter-read-requires : tie.Need-enter-read-requires
 enter-read-requires c κs =
     let start = start-of c in
-    let second = c .before in
-    let first = second .before in (
-      start .pre,
-      name-fits (now (start .args .name)) (first .before .name-from .ensures),
-      place-fits (some (start .args .x)) (some (start .args .y)) (first .coordinate-at .ensures) (second .coordinate-at2 .ensures) (c .place-at .ensures),
-    )
+    (start .pre, name-fits (now (start .args .name)) (c .before .before .before .name-from .ensures), place-is c .fits)
 
 returns : tie.Need-returns
 returns c =
     let placed = c .before in
     let start = start-of placed in
-    let second = placed .before in
-    let first = second .before in
     enter-told (start .args .plan) (now (start .args .name)) (start .args .x) (start .args .y)
     (call-answers (start .args .plan) (c .enter-read .ensures)
-    (numbers-as-read (sitesIn (start .args .plan)) (now (start .args .name)) (first .before .name-from .ensures) (placed .place-at .ensures)
-    (start .args .x) (start .args .y) (first .coordinate-at .ensures) (second .coordinate-at2 .ensures)))
+    (entered-as-read (sitesIn (start .args .plan)) (now (start .args .name)) (some (start .args .x)) (some (start .args .y))
+    (placed .before .before .before .name-from .ensures) (place-is placed)))
 
 pub enter-spec : {M : Type 1} → statement M
 enter-spec =

@@ -4,8 +4,9 @@ use Prim.Native.Nat.{_≤_}
 use native.Mathlib.Nat.{mul-le-mul}
 use native.Mathlib.Omega.{arith}
 use denote.Ref.{now}
-use Rattle.plan.specs.code.PlanLaws.{valid-holding, holding-may, holding-placed}
-use Rattle.plan.specs.code.CallLaws.{placed-none, placed-short, place-refuses, place-accepts}
+use Rattle.plan.specs.theorems.Plan.{valid-holding}
+use Rattle.plan.specs.code.PlanLaws.{holding-may, holding-placed}
+use Rattle.plan.specs.code.CallLaws.{none-placed, short-placed, place-refuses, place-accepts}
 use borrow.Author.Needs.{needs}
 use Rattle.plan.proofs.calls.place.Statement.{statement}
 use Rattle.plan.proofs.calls.place.Tie as tie
@@ -18,7 +19,7 @@ returns : tie.Need-returns
 returns c =
     let start = c .before .before .before in
     place-refuses (start .args .plan) (now (start .args .table)) (start .pre) (c .refuse .ensures)
-    (placed-none (start .args .plan) (now (start .args .table)) (c .before .if1 .taken))
+    (none-placed (start .args .plan) (now (start .args .table)) (c .before .if1 .taken))
 
 mul-if2 : tie.Need-mul-if2
 mul-if2 c =
@@ -35,7 +36,7 @@ returns-2 c =
     let first = c .before .before in
     let start = first .before .before in
     place-refuses (start .args .plan) (now (start .args .table)) (start .pre) (c .refuse2 .ensures)
-    (placed-short (start .args .plan) (now (start .args .table)) (first .if1 .left) (c .before .if2 .taken))
+    (short-placed (start .args .plan) (now (start .args .table)) (first .if1 .left) (c .before .if2 .taken))
 
 place-labels-requires : tie.Need-place-labels-requires
 place-labels-requires c κs =

@@ -1,7 +1,7 @@
 -- `side` meets its contract, by the one test: a valid plan holds the side of the rules. Assumes nothing.
 use borrow.Author.Tests.{not-true, not-false}
 use Rattle.plan.specs.code.CallLaws.{side-refused, side-given}
-use Rattle.plan.specs.theorems.Numbers.{side-told}
+use Rattle.plan.specs.theorems.Calls.{side-told}
 use Rattle.plan.proofs.calls.side.Statement.{statement}
 use Rattle.plan.proofs.calls.side.Tie as tie
 

@@ -1,9 +1,9 @@
 -- `enter_fields` meets its contract: what it reads fits, and is entered as the rules say. Assumes nothing.
 use denote.Ref.{now}
 use borrow.Author.Needs.{needs}
-use Rattle.plan.specs.rules.Number.{numberIn, coordinateIn}
-use Rattle.plan.specs.rules.Plan.{sitesIn}
-use Rattle.plan.specs.code.FieldLaws.{call-answers, name-fits, place-fits, entered-as-read}
+use Rattle.plan.specs.rules.Text.{numberIn}
+use Rattle.plan.specs.calls.Plan.{sitesIn}
+use Rattle.plan.specs.code.Entering.{PlaceIs, place-read, call-answers, name-fits, entered-as-read}
 use Rattle.plan.proofs.list.enter_fields.Statement.{statement}
 use Rattle.plan.proofs.list.enter_fields.Tie as tie
 
@@ -23,25 +23,23 @@ place-at-requires c κs = search needs
 abbrev start-of : tie.After-place-at → tie.Start
 start-of c = c .before .before .before .before .before .before .before
 
+-- What was read of the two coordinates.
+place-is : (c : tie.After-place-at)
+    → PlaceIs (numberIn (now (start-of c .args .x))) (numberIn (now (start-of c .args .y))) (c .place-at .result)
+place-is c = place-read _ _ (c .before .before .coordinate-from .ensures) (c .before .coordinate-from2 .ensures) (c .place-at .ensures)
+
 enter-read-requires : tie.Need-enter-read-requires
 enter-read-requires c κs =
     let start = start-of c in
-    let second = c .before in
-    let first = second .before in (
-      start .pre,
-      name-fits (now (start .args .name)) (first .before .name-from .ensures),
-      place-fits (numberIn (now (start .args .x))) (numberIn (now (start .args .y))) (first .coordinate-from .ensures) (second .coordinate-from2 .ensures) (c .place-at .ensures),
-    )
+    (start .pre, name-fits (now (start .args .name)) (c .before .before .before .name-from .ensures), place-is c .fits)
 
 returns : tie.Need-returns
 returns c =
     let placed = c .before in
     let start = start-of placed in
-    let second = placed .before in
-    let first = second .before in
     call-answers (start .args .plan) (c .enter-read .ensures)
-    (entered-as-read (sitesIn (start .args .plan)) (now (start .args .name)) (first .before .name-from .ensures) (placed .place-at .ensures)
-    (coordinateIn (now (start .args .x))) (coordinateIn (now (start .args .y))) (first .coordinate-from .ensures) (second .coordinate-from2 .ensures))
+    (entered-as-read (sitesIn (start .args .plan)) (now (start .args .name)) (numberIn (now (start .args .x))) (numberIn (now (start .args .y)))
+    (placed .before .before .before .name-from .ensures) (place-is placed))
 
 pub enter-fields-spec : {M : Type 1} → statement M
 enter-fields-spec =

@@ -2,8 +2,9 @@
 use mathlib.Core.Path.{sym}
 use lib.Seq.{length-take-le}
 use borrow.Author.Needs.{needs}
+use Rattle.plan.specs.calls.Plan.{sitesIn}
 use Rattle.plan.specs.code.CallLaws.{refuses}
-use Rattle.plan.specs.code.FieldLaws.{call-answers}
+use Rattle.plan.specs.code.Entering.{call-answers}
 use Rattle.plan.specs.code.LineLaws.{line-of-one, line-of-two, line-of-three, line-of-four}
 use Rattle.plan.proofs.list.enter_line.Statement.{statement}
 use Rattle.plan.proofs.list.enter_line.Tie as tie
@@ -17,7 +18,9 @@ refuse-requires c κs = search needs
 returns : tie.Need-returns
 returns c =
     let at-first = c .before .before in
-    refuses (at-first .before .before .pre) (c .refuse .ensures) (line-of-one _ (at-first .field-end .ensures) (c .before .if1 .taken))
+    let start = at-first .before .before in
+    refuses (start .pre) (c .refuse .ensures)
+    (line-of-one (sitesIn (start .args .plan)) (at-first .field-end .ensures) (c .before .if1 .taken))
 
 add-from-x : tie.Need-add-from-x
 add-from-x c = search needs
@@ -32,8 +35,10 @@ returns-2 : tie.Need-returns-2
 returns-2 c =
     let at-second = c .before .before in
     let at-first = at-second .before .before in
-    refuses (at-first .before .before .pre) (c .refuse2 .ensures)
-    (line-of-two _ (at-first .field-end .ensures) (at-second .before .if1 .left) (at-second .field-end2 .ensures) (c .before .if2 .taken))
+    let start = at-first .before .before in
+    refuses (start .pre) (c .refuse2 .ensures)
+    (line-of-two (sitesIn (start .args .plan)) (at-first .field-end .ensures) (at-second .before .if1 .left)
+    (at-second .field-end2 .ensures) (c .before .if2 .taken))
 
 add-from-y : tie.Need-add-from-y
 add-from-y c = search needs
@@ -49,12 +54,15 @@ returns-3 c =
     let at-third = c .before .before in
     let at-second = at-third .before .before in
     let at-first = at-second .before .before in
-    refuses (at-first .before .before .pre) (c .refuse3 .ensures)
-    (line-of-four _ (at-first .field-end .ensures) (at-second .before .if1 .left) (at-second .field-end2 .ensures)
-    (at-third .before .if2 .left) (at-third .field-end3 .ensures) (c .before .if3 .taken))
+    let start = at-first .before .before in
+    refuses (start .pre) (c .refuse3 .ensures)
+    (line-of-four (sitesIn (start .args .plan)) (at-first .field-end .ensures) (at-second .before .if1 .left)
+    (at-second .field-end2 .ensures) (at-third .before .if2 .left)
+    (at-third .field-end3 .ensures) (c .before .if3 .taken))
 
 slice-aggregate-enter-fields : tie.Need-slice-aggregate-enter-fields
-slice-aggregate-enter-fields c = sym (length-take-le _ _ (c .before .before .before .before .before .before .field-end .ensures .within))
+slice-aggregate-enter-fields c =
+    sym (length-take-le _ _ (c .before .before .before .before .before .before .field-end .ensures .no-tab .within))
 
 sub-enter-fields : tie.Need-sub-enter-fields
 sub-enter-fields c = search needs
@@ -82,9 +90,11 @@ returns-4 c =
     let at-third = c .before .before .before .before .before in
     let at-second = at-third .before .before in
     let at-first = at-second .before .before in
-    call-answers (at-first .before .before .args .plan) (c .enter-fields .ensures)
-    (line-of-three _ (at-first .field-end .ensures) (at-second .before .if1 .left) (at-second .field-end2 .ensures)
-    (at-third .before .if2 .left) (at-third .field-end3 .ensures) (c .before .before .before .before .if3 .left))
+    let plan = at-first .before .before .args .plan in
+    call-answers plan (c .enter-fields .ensures)
+    (line-of-three (sitesIn plan) (at-first .field-end .ensures) (at-second .before .if1 .left)
+    (at-second .field-end2 .ensures) (at-third .before .if2 .left)
+    (at-third .field-end3 .ensures) (c .before .before .before .before .if3 .left))
 
 pub enter-line-spec : {M : Type 1} → statement M
 enter-line-spec =

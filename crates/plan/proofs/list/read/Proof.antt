@@ -5,8 +5,8 @@ use native.Mathlib.Omega.{arith}
 use lib.ListN.{length}
 use borrow.Author.Needs.{needs}
 use Rattle.plan.specs.code.Reading.{Reading, reading-starts, reading-valid, reading-ends, reading-answers}
-use Rattle.plan.specs.code.Reading.{line-refuses, line-on, line-further}
-use Rattle.plan.specs.theorems.Conditions.{read-told}
+use Rattle.plan.specs.code.Reading.{line-refuses, line-on}
+use Rattle.plan.specs.theorems.Reading.{read-told}
 use Rattle.plan.proofs.list.read.Statement.{statement}
 use Rattle.plan.proofs.list.read.Tie as tie
 
@@ -53,7 +53,7 @@ loop-less c =
     omega (
       arith,
       turn .loop-test .taken,
-      line-further (turn .before .loop .inv) (turn .loop-test .taken) (line .read-line .ensures) (done .enum-told .given .1),
+      line-on (turn .before .loop .inv) (line .read-line .ensures) (done .enum-told .given .1) .1,
     )
 
 loop-again : tie.Need-loop-again Inv-loop μ-loop
@@ -61,7 +61,7 @@ loop-again c =
     let done = c .before in
     let line = done .before .before in
     let turn = line .before in
-    line-on (turn .before .loop .inv) (turn .loop-test .taken) (line .read-line .ensures) (done .enum-told .given .1)
+    line-on (turn .before .loop .inv) (line .read-line .ensures) (done .enum-told .given .1) .0
 
 returns-2 : tie.Need-returns-2 Inv-loop μ-loop
 returns-2 c = read-told _ (reading-ends (c .before .loop .inv) (c .loop-test .left), reading-valid (c .before .loop .inv))

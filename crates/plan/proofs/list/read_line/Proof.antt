@@ -1,10 +1,8 @@
 -- `plan::list::read_line` meets its contract: a line that is found is entered. Assumes nothing.
 use native.Mathlib.Omega.{arith}
-use mathlib.Core.Path.{sym, _∙_}
-use lib.ListN.{drop}
+use mathlib.Core.Path.{subst}
 use borrow.Author.Needs.{needs}
-use Rattle.plan.specs.rules.Text.{firstLine}
-use Rattle.plan.specs.code.Reading.{LineAt, line-found, line-missing, line-entered}
+use Rattle.plan.specs.code.Line.{LineAt, LineEnds, no-line, a-line}
 use Rattle.plan.proofs.list.read_line.Statement.{statement}
 use Rattle.plan.proofs.list.read_line.Tie as tie
 
@@ -17,7 +15,7 @@ found-at : (c : tie.After-known-told)
     → LineAt (start-of (c .before .before .before) .args .text .now) (start-of (c .before .before .before) .args .at) (c .before .end .given .0 .0)
 found-at c =
     let call = c .before .before .before in
-    line-found _ _ _ (start-of call .pre .1) (sym (c .before .end .given .1) ∙ call .line-end .ensures)
+    subst (LineEnds _ (start-of call .args .at)) (c .before .end .given .1) (call .line-end .ensures)
 
 line-end-requires : tie.Need-line-end-requires
 line-end-requires c κs = search needs
@@ -31,8 +29,7 @@ enum-told c = search needs
 returns : tie.Need-returns
 returns c =
     let call = c .before .before in
-    let start = start-of call in
-    line-missing (start .args .plan) (start .args .at) (firstLine (drop (start .args .at) (start .args .text .now))) (sym (c .enum-told .given .1) ∙ call .line-end .ensures)
+    no-line (subst (LineEnds _ (start-of call .args .at)) (c .enum-told .given .1) (call .line-end .ensures))
 
 sub-enter-line : tie.Need-sub-enter-line
 sub-enter-line c = omega (arith, found-at c)
@@ -50,9 +47,7 @@ add-t12 : tie.Need-add-t12
 add-t12 c = omega (arith, found-at (c .before .before .before))
 
 returns-2 : tie.Need-returns-2
-returns-2 c =
-    let line = c .before .before .before in
-    line-entered (start-of (line .before .before .before) .args .plan) (found-at line) (c .before .enter-line .ensures .0)
+returns-2 c = a-line (c .before .enter-line .result) (found-at (c .before .before .before)) (c .before .enter-line .ensures .0)
 
 pub read-line-spec : {M : Type 1} → statement M
 read-line-spec =

@@ -6,13 +6,13 @@ use native.Mathlib.Omega.{arith}
 use lib.ListN.{length, drop}
 use borrow.Author.Needs.{needs}
 use borrow.Author.Tests.{not-true, not-false}
-use Rattle.plan.specs.rules.Name.{nameBytes}
-use Rattle.plan.specs.code.NameLaws.{byte-passed, byte-failed, bytes-passed, empty-no-name, long-no-name, short-name}
+use Rattle.plan.specs.rules.Text.{allNameBytes}
+use Rattle.plan.specs.code.NameLaws.{name-bytes-from, bytes-passed, empty-no-name, long-no-name, short-name}
 use Rattle.plan.proofs.name.is_name.Statement.{statement}
 use Rattle.plan.proofs.name.is_name.Tie as tie
 
 abbrev Inv-loop : tie.InvT-loop
-Inv-loop text n i₀ i = (n ≡ length text) × (i ≤ n) × (nameBytes text ≡ nameBytes (drop i text))
+Inv-loop text n i₀ i = (n ≡ length text) × (i ≤ n) × (allNameBytes text ≡ allNameBytes (drop i text))
 
 abbrev μ-loop : tie.MeasureT-loop
 μ-loop text n i₀ i = n - i
@@ -37,7 +37,7 @@ returns-3 c =
     let at-loop = c .before .before .before .before in
     let text = at-loop .before .before .before .before .args .text .now in
     let failed = sym (c .before .is-name-byte .ensures) ∙ not-true (c .before .is-name-byte .result) (c .if3 .taken) in
-    sym (short-name text (omega arith) (omega arith) ∙ at-loop .loop .inv .2 ∙ byte-failed text (at-loop .loop .i) (omega arith) failed)
+    sym (short-name text (omega arith) (omega arith) ∙ at-loop .loop .inv .2 ∙ name-bytes-from text (at-loop .loop .i) (omega arith) failed)
 
 add-i : tie.Need-add-i Inv-loop μ-loop
 add-i c = omega arith
@@ -50,7 +50,7 @@ loop-again c =
     let at-loop = c .before .before .before .before in
     let text = at-loop .before .before .before .before .args .text .now in
     let passed = sym (c .before .is-name-byte .ensures) ∙ not-false (c .before .is-name-byte .result) (c .if3 .left) in
-    (refl, omega arith, at-loop .loop .inv .2 ∙ byte-passed text (at-loop .loop .i) (omega arith) passed)
+    (refl, omega arith, at-loop .loop .inv .2 ∙ name-bytes-from text (at-loop .loop .i) (omega arith) passed)
 
 returns-4 : tie.Need-returns-4 Inv-loop μ-loop
 returns-4 c =

@@ -1,7 +1,8 @@
 -- `is_name_byte` answers whether a byte is of a name: one law for each place where the byte can stand.
 -- Assumes nothing.
 use mathlib.Core.Path.{sym}
-use Rattle.plan.specs.code.NameLaws.{hyphen-name-byte, low-no-name-byte, digit-name-byte, middle-no-name-byte, letter-name-byte}
+use Rattle.plan.specs.theorems.Text.{low-no-name-byte}
+use Rattle.plan.specs.code.NameLaws.{hyphen-name-byte, digit-name-byte, middle-no-name-byte, letter-name-byte}
 use Rattle.plan.proofs.name.is_name_byte.Statement.{statement}
 use Rattle.plan.proofs.name.is_name_byte.Tie as tie
 

@@ -6,7 +6,8 @@ use native.Mathlib.Omega.{arith}
 use denote.Ref.{now}
 use borrow.Author.Needs.{needs}
 use borrow.Author.Tests.{not-true, not-false}
-use Rattle.plan.specs.rules.Name.{isName, name-short}
+use Rattle.plan.specs.rules.Text.{isName}
+use Rattle.plan.specs.theorems.Text.{name-short}
 use Rattle.plan.specs.code.NameLaws.{no-name-read, name-read}
 use Rattle.plan.proofs.name.name_from.Statement.{statement}
 use Rattle.plan.proofs.name.name_from.Tie as tie

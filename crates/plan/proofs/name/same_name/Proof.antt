@@ -6,13 +6,15 @@ use native.Mathlib.Omega.{arith}
 use lib.ListN.{length, take, drop}
 use lib.Seq.{length-take-le}
 use borrow.Author.Needs.{needs}
-use Rattle.plan.specs.rules.Name.{sameBytes, bytesOf}
-use Rattle.plan.specs.code.NameLaws.{lengths-differ, same-passed, same-failed, same-end}
+use borrow.Author.Tests.{eq-eqb, ne-eqb}
+use Rattle.plan.specs.rules.Text.{sameBytes}
+use Rattle.plan.specs.calls.Plan.{nameHeld}
+use Rattle.plan.specs.code.NameLaws.{lengths-differ, same-from, same-end}
 use Rattle.plan.proofs.name.same_name.Statement.{statement}
 use Rattle.plan.proofs.name.same_name.Tie as tie
 
 abbrev Inv-loop : tie.InvT-loop
-Inv-loop a b n i₀ i = (i ≤ n) × (sameBytes (bytesOf a) (bytesOf b) ≡ sameBytes (drop i (take n (a .bytes))) (drop i (take n (b .bytes))))
+Inv-loop a b n i₀ i = (i ≤ n) × (sameBytes (nameHeld a) (nameHeld b) ≡ sameBytes (drop i (take n (a .bytes))) (drop i (take n (b .bytes))))
 
 abbrev μ-loop : tie.MeasureT-loop
 μ-loop a b n i₀ i = n - i
@@ -26,13 +28,13 @@ returns c =
     let a = c .before .args .t1 in
     let b = c .before .args .t2 in
     let size = sizes (c .before) in
-    let length-a : length (bytesOf a) ≡ a .len = length-take-le (a .len) (a .bytes) (omega arith) in
-    let length-b : length (bytesOf b) ≡ b .len = length-take-le (b .len) (b .bytes) (omega arith) in
-    sym (lengths-differ (bytesOf a) (bytesOf b) (λ e. c .if1 .taken (sym length-a ∙ e ∙ length-b)))
+    let length-a : length (nameHeld a) ≡ a .len = length-take-le (a .len) (a .bytes) (omega arith) in
+    let length-b : length (nameHeld b) ≡ b .len = length-take-le (b .len) (b .bytes) (omega arith) in
+    sym (lengths-differ (nameHeld a) (nameHeld b) (λ e. c .if1 .taken (sym length-a ∙ e ∙ length-b)))
 
 loop-holds : tie.Need-loop-holds Inv-loop μ-loop
 loop-holds c =
-    (search needs, ap (λ (k : ℕ). sameBytes (bytesOf (c .before .args .t1)) (take k (c .before .args .t2 .bytes))) (sym (c .if1 .left)))
+    (search needs, ap (λ (k : ℕ). sameBytes (nameHeld (c .before .args .t1)) (take k (c .before .args .t2 .bytes))) (sym (c .if1 .left)))
 
 element-copy-out-if2 : tie.Need-element-copy-out-if2 Inv-loop μ-loop
 element-copy-out-if2 c = search needs
@@ -48,7 +50,7 @@ returns-2 c =
     let size = sizes (at-loop .before .before) in
     sym
     (at-loop .loop .inv .1
-    ∙ same-failed (a .len) (a .bytes) (b .bytes) (at-loop .loop .i) (omega arith) (omega arith) (omega arith) (c .if2 .taken))
+    ∙ same-from (a .len) (a .bytes) (b .bytes) (at-loop .loop .i) (omega arith) (omega arith) (omega arith) (ne-eqb _ _ (c .if2 .taken)))
 
 add-i : tie.Need-add-i Inv-loop μ-loop
 add-i c = omega arith
@@ -63,7 +65,9 @@ loop-again c =
     let b = at-loop .before .before .args .t2 in
     let size = sizes (at-loop .before .before) in (
       omega arith,
-      at-loop .loop .inv .1 ∙ same-passed (a .len) (a .bytes) (b .bytes) (at-loop .loop .i) (omega arith) (omega arith) (omega arith) (c .if2 .left),
+      at-loop .loop .inv .1
+          ∙ same-from (a .len) (a .bytes) (b .bytes) (at-loop .loop .i) (omega arith) (omega arith) (omega arith)
+          (eq-eqb _ _ (c .if2 .left)),
     )
 
 returns-3 : tie.Need-returns-3 Inv-loop μ-loop

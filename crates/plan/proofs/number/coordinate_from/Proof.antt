@@ -1,12 +1,10 @@
 -- `coordinate_from` reads a coordinate: a text that is not empty and has no leading zero writes the number of its digits.
 -- Assumes nothing.
 use mathlib.Core.Logic.{⊎-elim}
-use mathlib.Core.Option.{Option}
 use mathlib.Core.Path.{_≡_, sym, ap, _∙_}
-use Prim.Native.Nat.{ℕ}
 use native.Mathlib.Omega.{arith}
-use Rattle.plan.specs.rules.Number.{digitsAfter, numberIn, asCoordinate}
-use Rattle.plan.specs.code.NumberLaws.{empty-number, leading-zero, one-digit, more-digits}
+use Rattle.plan.specs.rules.Text.{digitsAfter, numberIn}
+use Rattle.plan.specs.code.NumberLaws.{empty-number, leading-zero, number-digits}
 use Rattle.plan.specs.code.Coordinate.{coordinateRead}
 use borrow.Author.Needs.{needs}
 use Rattle.plan.proofs.number.coordinate_from.Statement.{statement}
@@ -15,7 +13,7 @@ use Rattle.plan.proofs.number.coordinate_from.Tie as tie
 returns : tie.Need-returns
 returns c =
     let text = c .before .before .args .text .now in
-    sym (ap (λ (n : Option ℕ). coordinateRead (asCoordinate n)) (empty-number text (c .if1 .taken)))
+    sym (ap coordinateRead (empty-number text (c .if1 .taken)))
 
 shared-slice-read-if3 : tie.Need-shared-slice-read-if3
 shared-slice-read-if3 c = search needs
@@ -23,7 +21,7 @@ shared-slice-read-if3 c = search needs
 returns-2 : tie.Need-returns-2
 returns-2 c =
     let text = c .before .before .before .before .before .args .text .now in
-    sym (ap (λ (n : Option ℕ). coordinateRead (asCoordinate n)) (leading-zero text (c .before .before .if2 .taken) (c .if3 .taken)))
+    sym (ap coordinateRead (leading-zero text (c .before .before .if2 .taken) (c .if3 .taken)))
 
 digits-from-requires : tie.Need-digits-from-requires
 digits-from-requires c κs = search needs
@@ -32,8 +30,8 @@ returns-3 : tie.Need-returns-3
 returns-3 c =
     let text = c .before .before .before .before .args .text .now in
     let number : numberIn text ≡ digitsAfter 0 text =
-    ⊎-elim (λ w. more-digits text (w .0 .taken) (w .2 .left)) (λ w. one-digit text (omega arith)) (c .before .if2 .came) in
-    c .digits-from .ensures ∙ sym (ap (λ (n : Option ℕ). coordinateRead (asCoordinate n)) number)
+    number-digits text (omega arith) (λ long. ⊎-elim (λ w. w .2 .left) (λ w. absurd (omega arith)) (c .before .if2 .came)) in
+    c .digits-from .ensures ∙ sym (ap coordinateRead number)
 
 pub coordinate-from-spec : {M : Type 1} → statement M
 coordinate-from-spec =

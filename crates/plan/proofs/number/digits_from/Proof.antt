@@ -5,16 +5,18 @@ use Prim.Native.Nat.{_-_, _≤_}
 use native.Mathlib.Omega.{arith}
 use lib.ListN.{length, drop}
 use borrow.Author.Needs.{needs}
+use borrow.Author.Tests.{le-leb}
 use Rattle.placing.specs.rules.Units.{greatestCoordinate}
-use Rattle.plan.specs.rules.Number.{digitsAfter, asCoordinate}
-use Rattle.plan.specs.code.NumberLaws.{on-at, ends-at, end-at, in-range}
+use Rattle.plan.specs.rules.Text.{digitsAfter}
 use Rattle.plan.specs.code.Coordinate.{coordinateRead}
+use Rattle.plan.specs.code.NumberLaws.{at-fits, byte-at, end-at}
 use Rattle.plan.proofs.number.digits_from.Statement.{statement}
 use Rattle.plan.proofs.number.digits_from.Tie as tie
 
 abbrev Inv-loop : tie.InvT-loop
 Inv-loop text value₀ i₀ i-end value i =
-    (i-end ≡ length text) × (i ≤ i-end) × (value ≤ greatestCoordinate) × (digitsAfter 0 text ≡ digitsAfter value (drop i text))
+    (i-end ≡ length text) × (i ≤ i-end) × (value ≤ greatestCoordinate)
+    × (coordinateRead (digitsAfter 0 text) ≡ coordinateRead (digitsAfter value (drop i text)))
 
 abbrev μ-loop : tie.MeasureT-loop
 μ-loop text value₀ i₀ i-end value i = i-end - i
@@ -38,9 +40,7 @@ returns : tie.Need-returns Inv-loop μ-loop
 returns c =
     let call = c .before .before in
     let at-loop = call .before .before .before in
-    let ends = ends-at (at-loop .loop .value) (at-loop .before .before .args .text .now) (at-loop .loop .i) (omega arith)
-    (sym (call .with-digit .ensures) ∙ c .enum-told .given .1) in
-    sym (ap coordinateRead (ap asCoordinate (at-loop .loop .inv .3) ∙ ends))
+    sym (at-loop .loop .inv .3 ∙ byte-at _ _ (at-loop .loop .i) (omega arith) (sym (call .with-digit .ensures) ∙ c .enum-told .given .1))
 
 add-i : tie.Need-add-i Inv-loop μ-loop
 add-i c = omega arith
@@ -53,16 +53,16 @@ loop-again c =
     let told = c .before in
     let call = told .before .before in
     let at-loop = call .before .before .before in
-    let on = on-at (at-loop .loop .value) (at-loop .before .before .args .text .now) (at-loop .loop .i) (omega arith) (told .more .given .0 .0)
-    (sym (call .with-digit .ensures) ∙ told .more .given .1) in
-    (refl, omega arith, on .0, at-loop .loop .inv .3 ∙ on .1)
+    let read = sym (call .with-digit .ensures) ∙ told .more .given .1 in
+    let on = at-loop .loop .inv .3 ∙ byte-at _ _ (at-loop .loop .i) (omega arith) read in
+    (refl, omega arith, at-fits (digitsAfter (at-loop .loop .value) _) read, on)
 
 returns-2 : tie.Need-returns-2 Inv-loop μ-loop
 returns-2 c =
     let at-loop = c .before in
     let value = at-loop .loop .value in
-    let all = at-loop .loop .inv .3 ∙ end-at value (at-loop .before .before .args .text .now) (at-loop .loop .i) (omega arith) in
-    sym (ap coordinateRead (ap asCoordinate all ∙ in-range value (at-loop .loop .inv .2)))
+    let all = end-at value (at-loop .before .before .args .text .now) (at-loop .loop .i) (omega arith) in
+    sym (at-loop .loop .inv .3 ∙ ap coordinateRead all ∙ rw (le-leb value greatestCoordinate (at-loop .loop .inv .2), coordinateRead))
 
 pub digits-from-spec : {M : Type 1} → statement M
 digits-from-spec =

@@ -2,34 +2,25 @@
 use borrow.Author.Needs.{needs}
 use Rattle.plan.proofs.number.place_at.Statement.{statement}
 use Rattle.plan.proofs.number.place_at.Tie as tie
-use Rattle.plan.proofs.number.place_at.Reads as reads
-use Rattle.plan.proofs.number.place_at.Lts as lts
 
--- src/number.rt:46:24
 enum-known-x : tie.Need-enum-known-x
 enum-known-x c = search needs
 
--- src/number.rt:47:9
 enum-told : tie.Need-enum-told
 enum-told c = search needs
 
--- src/number.rt:47:9
 returns : tie.Need-returns
 returns c = rw (c .enum-told .given .1)
 
--- src/number.rt:49:24
 enum-known-y : tie.Need-enum-known-y
 enum-known-y c = search needs
 
--- src/number.rt:50:9
 enum-told-2 : tie.Need-enum-told-2
 enum-told-2 c = search needs
 
--- src/number.rt:50:9
 returns-2 : tie.Need-returns-2
 returns-2 c = rw (c .before .before .before .x .given .1, c .enum-told2 .given .1)
 
--- src/number.rt:36:1
 returns-3 : tie.Need-returns-3
 returns-3 c = rw (c .before .before .before .before .x .given .1, c .before .y .given .1)
 

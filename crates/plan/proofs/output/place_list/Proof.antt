@@ -4,8 +4,8 @@ use borrow.Author.Needs.{needs}
 use Prim.Native.Nat.{ℕ}
 use lib.ListN.{replicate, length-replicate}
 use denote.Ref.{now}
-use Rattle.plan.specs.rules.Calls.{fullTable}
-use Rattle.plan.specs.theorems.OutputLaws.{list-told}
+use Rattle.plan.specs.calls.Lengths.{fullTable}
+use Rattle.plan.specs.theorems.Output.{list-told}
 use Rattle.plan.specs.code.Filling.{reading-refused, reading-placed}
 use Rattle.plan.proofs.output.place_list.Statement.{statement}
 use Rattle.plan.proofs.output.place_list.Tie as tie

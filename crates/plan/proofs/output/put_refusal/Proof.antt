@@ -3,11 +3,12 @@
 use borrow.Author.Needs.{needs}
 use Prim.Native.Nat.{_+_, _≤_}
 use native.Mathlib.Omega.{arith}
+use mathlib.Core.List.{append-assoc}
 use lib.ListN.{length}
-use Rattle.plan.specs.rules.Number.{decimal, mostDigits}
-use Rattle.plan.specs.rules.Refusal.{number-small}
+use Rattle.plan.specs.rules.Text.{decimal}
+use Rattle.plan.specs.calls.Lengths.{mostDigits}
+use Rattle.plan.specs.theorems.Output.{number-short}
 use Rattle.plan.specs.code.PutLaws.{put-then, put-same, put-room}
-use Rattle.plan.specs.code.Refusing.{number-short, refusal-parts}
 use Rattle.plan.proofs.output.put_refusal.Statement.{statement}
 use Rattle.plan.proofs.output.put_refusal.Tie as tie
 
@@ -36,10 +37,7 @@ number-fits c = rw (c .number-of .ensures) (number-short (c .before .before .arg
 put-decimal-requires : tie.Need-put-decimal-requires
 put-decimal-requires c κs =
     let word = c .before .before .before in
-    let numbered = word .before .before .before in (
-      omega (arith, numbered .number-of .ensures, number-small (numbered .before .before .args .why)),
-      omega (arith, number-fits numbered, word-room word),
-    )
+    omega (arith, number-fits (word .before .before .before), word-room word)
 
 -- and the line feed is one byte.
 put-byte-requires : tie.Need-put-byte-requires
@@ -58,7 +56,7 @@ returns c =
     let word = digits .before .before .before .before in
     let numbered = word .before .before .before in
     put-same (put-then (word .put-bytes .ensures) (put-then (digits .put-decimal .ensures) (feed .put-byte .ensures)))
-    (refusal-parts (numbered .before .before .args .why) (numbered .number-of .ensures))
+    (rw (numbered .number-of .ensures) (simp append-assoc))
 
 pub put-refusal-spec : {M : Type 1} → statement M
 put-refusal-spec =

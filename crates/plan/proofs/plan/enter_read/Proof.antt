@@ -1,20 +1,18 @@
--- `enter_read` meets its contract: the plan holds its sites, so that its tests are those of `enteredRead`, and a name and a place
+-- `enter_read` meets its contract: the plan holds its sites, so that its tests are those of the table, and a name and a place
 -- more make it the plan of one site more. Assumes nothing.
 use mathlib.Core.Path.{_∙_}
 use mathlib.Core.List.{List}
 use Prim.Native.Nat.{_<_}
 use native.Mathlib.Omega.{arith}
-use lib.ListN.{length}
 use borrow.Author.Needs.{needs}
-use borrow.Author.Tests.{leb-false, not-false}
 use Rattle.placing.specs.rules.Units.{mostSites}
-use Rattle.plan.specs.rules.Site.{Site}
-use Rattle.plan.specs.rules.Enter.{appended-listed}
-use Rattle.plan.specs.rules.Plan.{sitesIn}
-use Rattle.plan.specs.code.Taken.{siteOf}
-use Rattle.plan.specs.code.PlanLaws.{Holding, valid-holding, holding-short, holding-more}
+use Rattle.plan.specs.rules.List.{Site}
+use Rattle.plan.specs.calls.Plan.{sitesIn}
+use Rattle.plan.specs.theorems.Entering.{Passed, passed-listed}
+use Rattle.plan.specs.theorems.Plan.{Holding, valid-holding}
+use Rattle.plan.specs.code.PlanLaws.{holding-short, holding-more}
 use Rattle.plan.specs.code.CallLaws.{refuses, accepts}
-use Rattle.plan.specs.code.Entering.{read-refused, read-passed, read-appended, read-accepted}
+use Rattle.plan.specs.code.Entering.{wantedRead, read-refused, read-passed, read-accepted, read-rules}
 use Rattle.plan.proofs.plan.enter_read.Statement.{statement}
 use Rattle.plan.proofs.plan.enter_read.Tie as tie
 
@@ -61,15 +59,19 @@ returns c =
 enum-told : tie.Need-enum-told
 enum-told c = search needs
 
--- Where no test fails there is room.
-room : (c : tie.After-enum-told) → start-of (c .before .before) .args .plan .count < mostSites
-room c =
+-- No test holds.
+passes : (c : tie.After-enum-told)
+    → Passed (sites (start-of (c .before .before))) (wantedRead (start-of (c .before .before) .args .name) (start-of (c .before .before) .args .place))
+passes c =
     let call = c .before .before in
     let taken = call .before .before .before in
     let start = start-of call in
-    let passed = read-passed (holding start) (start .args .name) (start .args .place) (taken .before .name-taken .ensures)
-    (taken .place-taken .ensures) (call .first-failed .ensures) (c .enum-told .given .1) in
-    omega (arith, holding start .count, leb-false mostSites (length (sites start)) (passed .has-room))
+    read-passed (holding start) (start .args .name) (start .args .place) (taken .before .name-taken .ensures) (taken .place-taken .ensures)
+    (call .first-failed .ensures) (c .enum-told .given .1)
+
+-- So there is room.
+room : (c : tie.After-enum-told) → start-of (c .before .before) .args .plan .count < mostSites
+room c = omega (arith, holding (start-of (c .before .before)) .count, passes c .room)
 
 mul-names : tie.Need-mul-names
 mul-names c = record { fits = omega (arith, room c) }
@@ -97,16 +99,9 @@ returns-2 c =
     let start = start-of call in
     let name = start .args .name in
     let place = start .args .place in
-    let passed = read-passed (holding start) name place (taken .before .name-taken .ensures) (taken .place-taken .ensures)
-    (call .first-failed .ensures) (told .enum-told .given .1) in
-    let on-plan = start .pre .2 .on-plan (not-false (place .ok) (passed .is-inside)) in
-    let is-name = not-false (name .ok) (passed .is-named) in
-    accepts (start .args .plan)
-    (appended-listed (sites start) (siteOf (name .name) (place .place)) _ (holding start .listed) (start .pre .1 .named is-name)
-    (on-plan .on-x .range) (on-plan .on-y .range)
-    (read-appended (holding start) name place (taken .before .name-taken .ensures) (taken .place-taken .ensures)
-    (call .first-failed .ensures) (told .enum-told .given .1)))
-    (c .unplaced .ensures ∙ holding-more (holding start) (name .name) (place .place) (start .pre .1 .held is-name) (room told))
+    let passed = passes told in
+    accepts (start .args .plan) (passed-listed (holding start .listed) (read-rules (start .pre .1) (start .pre .2) passed) passed)
+    (c .unplaced .ensures ∙ holding-more (holding start) (name .name) (place .place) (start .pre .1 .held (passed .is-named)) (room told))
     (read-accepted (holding start) name place (taken .before .name-taken .ensures) (taken .place-taken .ensures)
     (call .first-failed .ensures) (told .enum-told .given .1))
 

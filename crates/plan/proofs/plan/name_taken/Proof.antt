@@ -6,14 +6,14 @@ use mathlib.Core.Path.{_≡_, refl, sym, _∙_}
 use lib.ListN.{take}
 use mathlib.Core.Bool.{false}
 use borrow.Author.Needs.{needs}
-use Rattle.plan.specs.rules.Name.{bytesOf}
-use Rattle.plan.specs.rules.Site.{among}
-use Rattle.plan.specs.code.TakenLaws.{among-more, among-one, isNamed, name-among, held-short}
+use Rattle.plan.specs.rules.List.{among}
+use Rattle.plan.specs.calls.Plan.{nameHeld}
+use Rattle.plan.specs.code.Taken.{isNamed, among-more, among-one, held-short}
 use Rattle.plan.proofs.plan.name_taken.Statement.{statement}
 use Rattle.plan.proofs.plan.name_taken.Tie as tie
 
 abbrev Inv-loop : tie.InvT-loop
-Inv-loop n name names i₀ i = (i ≤ n) × (among (isNamed (bytesOf name)) (take i names) ≡ false)
+Inv-loop n name names i₀ i = (i ≤ n) × (among (isNamed (nameHeld name)) (take i names) ≡ false)
 
 abbrev μ-loop : tie.MeasureT-loop
 μ-loop n name names i₀ i = n - i
@@ -37,10 +37,9 @@ returns c =
     let call = c .before in
     let head = call .before .before .before in
     let start = head .before in
-    let name = bytesOf (start .args .name) in
+    let name = nameHeld (start .args .name) in
     sym
-    (name-among (take (start .args .n) (start .args .t1)) name
-    ∙ among-one (isNamed name) (start .args .t1) (start .args .n) (head .loop .i) _ (omega arith) (omega arith)
+    (among-one (isNamed name) (start .args .t1) (start .args .n) (head .loop .i) _ (omega arith) (omega arith)
     (sym (call .same-name .ensures) ∙ c .if1 .taken))
 
 add-i : tie.Need-add-i Inv-loop μ-loop
@@ -55,7 +54,7 @@ loop-again c =
     let head = call .before .before .before in
     let start = head .before in (
       omega arith,
-      among-more (isNamed (bytesOf (start .args .name))) (start .args .t1) (head .loop .i) _ (omega arith) (head .loop .inv .1)
+      among-more (isNamed (nameHeld (start .args .name))) (start .args .t1) (head .loop .i) _ (omega arith) (head .loop .inv .1)
           (sym (call .same-name .ensures) ∙ c .if1 .left),
     )
 
@@ -63,7 +62,7 @@ returns-2 : tie.Need-returns-2 Inv-loop μ-loop
 returns-2 c =
     let head = c .before in
     let end : head .loop .i ≡ head .before .args .n = omega arith in
-    sym (name-among _ (bytesOf (head .before .args .name)) ∙ rw end at (head .loop .inv .1))
+    sym (rw end at (head .loop .inv .1))
 
 pub name-taken-spec : {M : Type 1} → statement M
 name-taken-spec =

@@ -6,8 +6,8 @@ use mathlib.Core.Path.{_≡_, refl, sym, _∙_}
 use lib.ListN.{take}
 use mathlib.Core.Bool.{false}
 use borrow.Author.Needs.{needs}
-use Rattle.plan.specs.rules.Site.{among}
-use Rattle.plan.specs.code.TakenLaws.{among-more, among-one, isAt, place-among}
+use Rattle.plan.specs.rules.List.{among}
+use Rattle.plan.specs.code.Taken.{isAt, among-more, among-one}
 use Rattle.plan.proofs.plan.place_taken.Statement.{statement}
 use Rattle.plan.proofs.plan.place_taken.Tie as tie
 
@@ -36,8 +36,7 @@ returns c =
     let start = head .before in
     let place = start .args .place in
     sym
-    (place-among (take (start .args .n) (start .args .t1)) place
-    ∙ among-one (isAt place) (start .args .t1) (start .args .n) (head .loop .i) _ (omega arith) (omega arith)
+    (among-one (isAt place) (start .args .t1) (start .args .n) (head .loop .i) _ (omega arith) (omega arith)
     (sym (call .same-place .ensures) ∙ c .if1 .taken))
 
 add-i : tie.Need-add-i Inv-loop μ-loop
@@ -60,7 +59,7 @@ returns-2 : tie.Need-returns-2 Inv-loop μ-loop
 returns-2 c =
     let head = c .before in
     let end : head .loop .i ≡ head .before .args .n = omega arith in
-    sym (place-among _ (head .before .args .place) ∙ rw end at (head .loop .inv .1))
+    sym (rw end at (head .loop .inv .1))
 
 pub place-taken-spec : {M : Type 1} → statement M
 place-taken-spec =

@@ -1,6 +1,6 @@
 -- `same_place` meets its contract, x before y. Assumes nothing.
 use mathlib.Core.Path.{sym}
-use Rattle.plan.specs.code.TakenLaws.{other-x, same-x}
+use Rattle.plan.specs.code.Taken.{other-x, same-x}
 use Rattle.plan.proofs.plan.same_place.Statement.{statement}
 use Rattle.plan.proofs.plan.same_place.Tie as tie
 

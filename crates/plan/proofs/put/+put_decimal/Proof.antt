@@ -5,7 +5,8 @@ use Prim.Native.Nat.{ℕ, _+_, _/_, _≤_, _<_}
 use native.Mathlib.Omega.{arith}
 use lib.ListN.{length, length-append}
 use borrow.Author.Needs.{needs}
-use Rattle.plan.specs.rules.Number.{decimal, decimal-digit, decimal-large, sevenDigits}
+use Rattle.plan.specs.rules.Text.{decimal}
+use Rattle.plan.specs.theorems.Text.{decimal-digit, decimal-large}
 use Rattle.plan.specs.code.PutLaws.{put-then, put-same, put-length}
 use borrow.Fn.Kinds.{In}
 use borrow.Fn.PlainCycle.{Measures, is, falls, and}
@@ -17,8 +18,8 @@ use Rattle.plan.proofs.put.+put_decimal.{statement}
 use Rattle.plan.proofs.put.+put_decimal.Tie.{close}
 
 -- A number has one digit more than its tenth part.
-one-longer : (n : ℕ) → 10 ≤ n → n < sevenDigits → length (decimal n) ≡ length (decimal (n / 10)) + 1
-one-longer n h few = ap length (decimal-large n h few) ∙ simp length-append
+one-longer : (n : ℕ) → 10 ≤ n → length (decimal n) ≡ length (decimal (n / 10)) + 1
+one-longer n h = ap length (decimal-large n h) ∙ simp length-append
 
 abbrev μ-put-decimal : Measures 1 put-decimal-kinds.ps ℕ
 μ-put-decimal κs a = a .1 .1 .0
@@ -59,8 +60,8 @@ returns t c =
 put-decimal-requires : (t : ℕ) → put-decimal-lts.Need-put-decimal-requires (claims t) (given t) put-decimal.Post
 put-decimal-requires t c κs =
     let args = c .before .before .before .args in
-    let longer = one-longer (args .n) (c .before .if1 .left) (omega arith) in
-    (omega arith, (omega arith, omega arith))
+    let longer = one-longer (args .n) (c .before .if1 .left) in
+    (omega arith, omega arith)
 
 add-put-byte-2 : (t : ℕ) → put-decimal-lts.Need-add-put-byte-2 (claims t) (given t) put-decimal.Post
 add-put-byte-2 t c = omega arith
@@ -72,7 +73,7 @@ put-byte-requires-2 : (t : ℕ) → put-decimal-lts.Need-put-byte-requires-2 (cl
 put-byte-requires-2 t c κs =
     let first = c .before .before .before in
     let args = first .before .before .before .before .args in
-    let longer = one-longer (args .n) (first .before .before .if1 .left) (omega arith) in
+    let longer = one-longer (args .n) (first .before .before .if1 .left) in
     omega (arith, first .put-decimal .ensures .next-is, put-length (first .put-decimal .ensures))
 
 same-length-2 : (t : ℕ) → put-decimal-lts.Need-same-length-2 (claims t) (given t) put-decimal.Post
@@ -86,7 +87,7 @@ returns-2 t c =
     let first = second .before .before .before .before in
     let args = first .before .before .before .before .args in
     put-same (put-then (first .put-decimal .ensures) (second .put-byte2 .ensures))
-    (sym (decimal-large (args .n) (first .before .before .if1 .left) (omega arith)))
+    (sym (decimal-large (args .n) (first .before .before .if1 .left)))
 
 pub +put-decimal-spec : {M : Type 1} → statement M
 +put-decimal-spec = close μ-put-decimal λ t. put-decimal-lts.spec (claims t)

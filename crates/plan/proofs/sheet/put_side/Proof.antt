@@ -8,9 +8,9 @@ use Prim.Native.Nat.{_≤_}
 use lib.ListN.{length}
 use denote.Ref.{now}
 use Rattle.placing.specs.rules.Units.{greatestSide}
-use Rattle.plan.specs.rules.Text.{tab}
-use Rattle.plan.specs.rules.Number.{decimal, decimal-short}
+use Rattle.plan.specs.rules.Text.{tab, decimal}
 use Rattle.plan.specs.rules.Sheet.{sideWord, sideText}
+use Rattle.plan.specs.theorems.Text.{decimal-short}
 use Rattle.plan.specs.code.Put.{Put}
 use Rattle.plan.specs.code.Composing.{side-text-short}
 use Rattle.plan.specs.code.PutLaws.{put-then, put-length}
@@ -46,7 +46,7 @@ put-decimal-requires c κs =
     let small = number-small told in
     let word = told .before .before .before .before in
     let short : length (decimal number) ≤ 5 = decimal-short number (omega (arith, small)) in
-    (omega (arith, small), omega (arith, short, word .put-bytes .ensures .next-is, put-length (word .put-bytes .ensures)))
+    omega (arith, short, word .put-bytes .ensures .next-is, put-length (word .put-bytes .ensures))
 
 enum-told : tie.Need-enum-told
 enum-told c = search needs

@@ -4,8 +4,9 @@ use borrow.Author.Needs.{needs}
 use Prim.Native.Nat.{_+_, _≤_}
 use native.Mathlib.Omega.{arith}
 use lib.ListN.{length}
-use Rattle.plan.specs.rules.Number.{decimal, decimal-short}
-use Rattle.plan.specs.rules.Name.{bytesOf, mostNameBytes}
+use Rattle.plan.specs.rules.Text.{decimal, mostNameBytes}
+use Rattle.plan.specs.calls.Plan.{nameHeld}
+use Rattle.plan.specs.theorems.Text.{decimal-short}
 use Rattle.plan.specs.code.Taken.{siteOf}
 use Rattle.plan.specs.code.Composing.{name-text-short, corner-text-short, line-parts}
 use Rattle.plan.specs.code.PutLaws.{put-then, put-same, put-room}
@@ -13,14 +14,14 @@ use Rattle.plan.proofs.sheet.put_site.Statement.{statement}
 use Rattle.plan.proofs.sheet.put_site.Tie as tie
 
 -- Each part is short.
-name-fits : (c : tie.Start) → length (bytesOf (c .args .name)) ≤ mostNameBytes
+name-fits : (c : tie.Start) → length (nameHeld (c .args .name)) ≤ mostNameBytes
 name-fits c = name-text-short (c .args .name) (c .pre .0)
 
 x-fits : (c : tie.Start) → length (decimal (c .args .place .x .0)) ≤ 5
-x-fits c = decimal-short (c .args .place .x .0) (omega (arith, c .pre .1 .on-x .range))
+x-fits c = decimal-short (c .args .place .x .0) (omega (arith, c .pre .1 .on-x))
 
 y-fits : (c : tie.Start) → length (decimal (c .args .place .y .0)) ≤ 5
-y-fits c = decimal-short (c .args .place .y .0) (omega (arith, c .pre .1 .on-y .range))
+y-fits c = decimal-short (c .args .place .y .0) (omega (arith, c .pre .1 .on-y))
 
 corner-fits : (c : tie.Start) → length (decimal (c .args .corner)) ≤ 1
 corner-fits c = corner-text-short (c .args .corner) (c .pre .2)
@@ -54,7 +55,7 @@ tab-room c = put-room (c .put-byte .ensures) 1 14 (omega arith) (name-room (c .b
 put-decimal-requires : tie.Need-put-decimal-requires
 put-decimal-requires c κs =
     let start = from-name (c .before .before .before .before .before .before .before) in
-    (omega (arith, start .pre .1 .on-x .range), omega (arith, x-fits start, tab-room (c .before .before .before)))
+    omega (arith, x-fits start, tab-room (c .before .before .before))
 
 x-room : (c : tie.After-put-decimal) → c .put-decimal .result + 9 ≤ length (c .put-decimal .last .0)
 x-room c = put-room (c .put-decimal .ensures) 5 9 (x-fits (from-x c)) (tab-room (c .before .before .before .before))
@@ -68,7 +69,7 @@ tab-room-2 c = put-room (c .put-byte2 .ensures) 1 8 (omega arith) (x-room (c .be
 put-decimal-requires-2 : tie.Need-put-decimal-requires-2
 put-decimal-requires-2 c κs =
     let start = from-x (c .before .before .before .before .before .before .before) in
-    (omega (arith, start .pre .1 .on-y .range), omega (arith, y-fits start, tab-room-2 (c .before .before .before)))
+    omega (arith, y-fits start, tab-room-2 (c .before .before .before))
 
 y-room : (c : tie.After-put-decimal2) → c .put-decimal2 .result + 3 ≤ length (c .put-decimal2 .last .0)
 y-room c = put-room (c .put-decimal2 .ensures) 5 3 (y-fits (from-y c)) (tab-room-2 (c .before .before .before .before))
@@ -82,7 +83,7 @@ tab-room-3 c = put-room (c .put-byte3 .ensures) 1 2 (omega arith) (y-room (c .be
 put-decimal-requires-3 : tie.Need-put-decimal-requires-3
 put-decimal-requires-3 c κs =
     let start = from-y (c .before .before .before .before .before .before .before) in
-    (omega (arith, start .pre .2 .most), omega (arith, corner-fits start, tab-room-3 (c .before .before .before)))
+    omega (arith, corner-fits start, tab-room-3 (c .before .before .before))
 
 corner-room : (c : tie.After-put-decimal3) → c .put-decimal3 .result + 1 ≤ length (c .put-decimal3 .last .0)
 corner-room c = put-room (c .put-decimal3 .ensures) 1 1 (corner-fits (from-corner c)) (tab-room-3 (c .before .before .before .before))

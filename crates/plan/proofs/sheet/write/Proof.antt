@@ -8,10 +8,13 @@ use Prim.Native.Nat.{_≤_}
 use native.Mathlib.Omega.{arith}
 use lib.ListN.{length}
 use denote.Ref.{now}
-use Rattle.plan.specs.rules.Sheet.{sheetOf, sheet-longest, longestSheet}
-use Rattle.plan.specs.rules.Plan.{sitesIn}
+use Rattle.plan.specs.deciding.Output.{sheetOf}
+use Rattle.plan.specs.calls.Plan.{sitesIn}
+use Rattle.plan.specs.theorems.Sheet.{sheet-longest}
+use Rattle.plan.specs.calls.Lengths.{longestSheet}
+use Rattle.plan.specs.theorems.Plan.{valid-holding}
 use Rattle.plan.specs.code.PutLaws.{put-length}
-use Rattle.plan.specs.code.Filling.{write-unplaced, write-short, write-copied, valid-listed}
+use Rattle.plan.specs.code.Filling.{write-unplaced, write-short, write-copied}
 use Rattle.plan.proofs.sheet.write.Statement.{statement}
 use Rattle.plan.proofs.sheet.write.Tie as tie
 
@@ -21,7 +24,7 @@ is-placed c = not-false (c .before .before .before .args .plan .placed) (c .if1 
 
 -- The sheet is no longer than the array.
 sheet-fits : (c : tie.Start) → length (sheetOf (sitesIn (c .args .plan))) ≤ longestSheet
-sheet-fits c = sheet-longest (sitesIn (c .args .plan)) (valid-listed (c .pre))
+sheet-fits c = sheet-longest (sitesIn (c .args .plan)) (valid-holding (c .pre) .listed)
 
 returns : tie.Need-returns
 returns c =

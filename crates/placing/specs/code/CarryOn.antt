@@ -1,0 +1,167 @@
+-- A trial on the bytes of a state (specs/code/Ways): it takes a corner, then carries out one decision after another, with a table of
+-- marks, until a site is left with no corner or no decision waits. The laws of specs/search/Trial do the work.
+-- Assumes nothing.
+use mathlib.Core.Path.{_≡_, refl, sym, ap, _∙_}
+use mathlib.Core.Bool.{Bool, true, false, true≢false}
+use mathlib.Core.List.{List}
+use mathlib.Core.Logic.{_≢_}
+use Prim.Native.Nat.{ℕ, _≤_, _<_}
+use native.Mathlib.Omega.{arith}
+use lib.ListN.{length, set, length-set}
+use lib.Seq.{getD-set-other}
+use Rattle.placing.specs.declared.units.HalfUnits.{HalfUnits}
+use Rattle.placing.specs.rules.Choice.{cornerAt}
+use Rattle.placing.specs.search.Problem.{Problem}
+use Rattle.placing.specs.search.Rows.{rowOf}
+use Rattle.placing.specs.search.State.{Underway, Closed, Later, Took}
+use Rattle.placing.specs.search.Trial.{trial-begins, trial-later-start, carried-underway, carried-later, stuck-refused, trial-closed}
+use Rattle.placing.specs.code.Ways.{Done, Sizes, AllSettled, TakenCorner, CarriedOut, FirstWaiting, Kept, Marked, CarriedOn, Tried}
+use Rattle.placing.specs.code.Sites.{Held}
+use Rattle.placing.specs.code.Labels.{labels, meet-equal}
+use Rattle.placing.specs.code.Asks.{MayCarryOut}
+use Rattle.placing.specs.code.Marks.{kept-same, kept-set, none-waits-marked}
+
+-- Some decisions have been carried out since the state ways₀, decided₀: the marked ones.
+pub record CarryingOn (P : Problem) (ways₀ decided₀ marks₀ ways decided marks : List ℕ) : Type 0 where
+  pub sizes : Sizes ways decided
+  pub room : P .n ≤ length marks
+  pub kept : Kept (P .n) marks₀ marks
+  pub underway : Underway P ways decided (Done marks)
+  pub later : (w d : List ℕ) (i c : ℕ) → i < P .n → c ≢ 0
+      → Later P w d i c ways₀ decided₀ → Later P w d i c ways decided
+
+-- Carrying on starts with the state as it is.
+pub carrying-starts : {P : Problem} {ways decided marks : List ℕ} → Sizes ways decided → P .n ≤ length marks
+    → Underway P ways decided (Done marks) → CarryingOn P ways decided marks ways decided marks
+carrying-starts sizes room underway =
+    record {
+      sizes = sizes;
+      room = room;
+      kept = kept-same;
+      underway = underway;
+      later = λ w d i c inside some later. later;
+    }
+
+module _ {P : Problem} {ways₀ decided₀ marks₀ ways decided marks : List ℕ}
+    (so-far : CarryingOn P ways₀ decided₀ marks₀ ways decided marks) where
+  -- The decided corner of every decided site alone is open.
+  carrying-settled : AllSettled (P .n) ways decided
+  carrying-settled =
+      record {
+        all-settled = λ j inside. record {
+          settled = λ d. record {
+            is-open = so-far .underway .decided-open j inside d;
+            alone = λ e. so-far .underway .decided-alone j e inside d;
+          };
+        };
+      }
+
+  -- Where no decision waits, the trial has carried on.
+  pub carrying-ends : {k : ℕ} → FirstWaiting decided marks (P .n) k → k ≡ P .n → CarriedOn P ways₀ decided₀ true ways decided
+  carrying-ends first none =
+      record {
+        sizes = so-far .sizes;
+        closed = λ e. trial-closed (so-far .underway) (none-waits-marked (rw none at first));
+        later = λ e. so-far .later;
+        refused = λ e. absurd (true≢false e);
+      }
+
+  module _ {k : ℕ} (listed : k < P .n) (is-decided : cornerAt decided k ≢ 0) where
+    -- What is decided is a candidate.
+    carrying-candidate : P .Candidate k (cornerAt decided k)
+    carrying-candidate =
+        so-far .underway .candidate k (cornerAt decided k) listed (so-far .underway .decided-open k listed is-decided)
+
+    module _ {ok : Bool} {ways′ decided′ : List ℕ} (out : CarriedOut P ways decided k ok ways′ decided′) where
+      -- After the decision of site k is carried out and k is marked, the trial goes on ..
+      pub carrying-on : ok ≡ true → CarryingOn P ways₀ decided₀ marks₀ ways′ decided′ (set marks k 1)
+      carrying-on went =
+          let carried = out .carried went in
+          record {
+            sizes = out .sizes;
+            room = rw length-set (so-far .room);
+            kept = kept-set 1 listed (so-far .kept);
+            underway = carried-underway (so-far .underway) listed is-decided carried
+                (λ j inside different done. sym (getD-set-other marks k j 1 0 different) ∙ done);
+            later = λ w d i c inside some later.
+                carried-later (so-far .underway) listed is-decided carried inside some (so-far .later w d i c inside some later);
+          }
+
+      -- .. and where a site is left with no corner, it has failed.
+      pub carrying-stuck : ok ≡ false → CarriedOn P ways₀ decided₀ false ways′ decided′
+      carrying-stuck failed =
+          record {
+            sizes = out .sizes;
+            closed = λ e. absurd (true≢false (sym e));
+            later = λ e. absurd (true≢false (sym e));
+            refused = λ e w d i c inside some later.
+                stuck-refused (so-far .underway) listed is-decided (out .stuck failed) (so-far .later w d i c inside some later);
+          }
+
+-- A decision may be carried out: open corners are uncrowded, so their labels meet at equal corners only.
+pub may-carry-out : {n : ℕ} {xs ys : List ℕ} {side : HalfUnits} {ways₀ decided₀ marks₀ ways decided marks : List ℕ} {k : ℕ}
+    → Held n xs ys side → CarryingOn (labels (side .0) n xs ys) ways₀ decided₀ marks₀ ways decided marks → k < n
+    → cornerAt decided k ≢ 0 → MayCarryOut n xs ys side ways decided k
+may-carry-out {n} {xs} {ys} {side} held so-far listed is-decided =
+    let own = carrying-candidate so-far listed is-decided in
+    record {
+      held = held;
+      sizes = so-far .sizes;
+      listed = listed;
+      corner = own .corner;
+      settled = carrying-settled so-far;
+      only-equal = λ j other different. record {
+        equal = λ e is-open. meet-equal (side .0) n xs ys listed other different own (so-far .underway .candidate j e other is-open);
+      };
+    }
+
+module _ {P : Problem} {ways decided ways′ decided′ marks : List ℕ} {i c : ℕ}
+    (closed : Closed P ways decided) (listed : i < P .n) (undecided : cornerAt decided i ≡ 0)
+    (is-open : rowOf ways i c ≡ 1) (taken : TakenCorner ways decided i c ways′ decided′) (marked : Marked decided (P .n) marks) where
+  -- A trial starts by taking a corner ..
+  took : Took P ways decided i c ways′ decided′
+  took =
+      record {
+        takes = taken .takes;
+        is-open = taken .lone .is-open;
+        alone = taken .lone .alone;
+        others-open = λ j e inside different. ap (λ (row : ℕ → ℕ). row e) (taken .elsewhere j different);
+        others-decided = λ j inside. taken .decided-elsewhere j;
+      }
+
+  -- .. and is under way, with the sites decided before marked.
+  pub taken-underway : Underway P ways′ decided′ (Done marks)
+  taken-underway = trial-begins closed listed undecided is-open took (λ j inside done u. marked .unmarked j inside u done)
+
+  -- The open corner is a corner ..
+  some : c ≢ 0
+  some = let corner = P .corner i c (closed .candidate i c listed is-open) in omega arith
+
+  -- .. and what the trial has taken lies later from its start.
+  start : Later P ways decided i c ways′ decided′
+  start = trial-later-start closed listed undecided is-open took
+
+  module _ {ok : Bool} {ways″ decided″ : List ℕ} (on : CarriedOn P ways′ decided′ ok ways″ decided″) where
+    -- Once it has carried on, the corner has been tried ..
+    pub trial-passes : ok ≡ true → Tried P ways decided i c true ways″ decided″
+    trial-passes passed =
+        record {
+          sizes = on .sizes;
+          closed = λ e. on .closed passed;
+          later = λ e. on .later passed ways decided i c listed some start;
+          refused = λ e. absurd (true≢false e);
+          ways-back = λ e. absurd (true≢false e);
+          decided-back = λ e. absurd (true≢false e);
+        }
+
+    -- .. and where that failed, the state it started from is put back.
+    pub trial-fails : ok ≡ false → Sizes ways decided → Tried P ways decided i c false ways decided
+    trial-fails failed sizes =
+        record {
+          sizes = sizes;
+          closed = λ e. absurd (true≢false (sym e));
+          later = λ e. absurd (true≢false (sym e));
+          refused = λ e. on .refused failed ways decided i c listed some start;
+          ways-back = λ e. refl;
+          decided-back = λ e. refl;
+        }

@@ -1,0 +1,8 @@
+-- What decides the rules, and the answer by plain search.
+pub mod Decides
+-- A test that computes for each rule.
+pub mod Tests
+-- Lists of corners in their order, up to the first that passes a test.
+pub mod Enumerate
+-- The answer by that search.
+pub mod Answer

@@ -1,0 +1,126 @@
+-- Laws of rules/Choice: two labels that meet, the four facts about good choices that every way of placing needs, then the first of them.
+-- Assumes nothing.
+use mathlib.Core.Path.{_≡_, refl, sym, _∙_}
+use mathlib.Core.List.{List, [], _∷_}
+use mathlib.Core.Logic.{_≢_, Ne·symm, _⊎_, inl, inr}
+use Prim.Native.Nat.{ℕ, _≤_, _<_}
+use native.Mathlib.Decide.{ℕ-discrete, decLt}
+use native.Mathlib.Omega.{arith}
+use lib.ListN.{length, replicate, length-replicate, getD-replicate}
+use Rattle.placing.specs.declared.units.Place.{Place}
+use Rattle.placing.specs.rules.Units.{Axis, along, dist, siteAt, greatestCoordinate, freeSide, Distinct, InRange}
+use Rattle.placing.specs.rules.Corner.{Corner}
+use Rattle.placing.specs.rules.Label.{Meet}
+use Rattle.placing.specs.rules.Choice.{cornerAt, Corners, MeetingPair, Good, First, Before, lower, later}
+use Rattle.placing.specs.deciding.Decides.{Decides}
+use Rattle.placing.specs.deciding.Tests.{goodTest, good-decides}
+use Rattle.placing.specs.theorems.Corner.{on-axis}
+use Rattle.placing.specs.theorems.Label.{overlap-at, meet-one, meet-larger-whole}
+use Rattle.placing.specs.theorems.Crowd.{crowded-at, crowded-larger, doubled-covers-one}
+
+-- ---- two labels that meet
+
+-- Two labels that meet, of different sites, make a pair.
+pub meeting-of : {p q : ℕ} {ps : List Place} {cs : List ℕ} (i j : ℕ) → i < length ps → j < length ps → i ≢ j
+    → Meet p q (siteAt ps i) (cornerAt cs i) (siteAt ps j) (cornerAt cs j) → MeetingPair p q ps cs
+meeting-of i j i-listed j-listed differ meet =
+    record { first = i; second = j; first-listed = i-listed; second-listed = j-listed; different = differ; meet = meet }
+
+-- A pair that meets at one side is one at another side, if the two labels meet there.
+pub meeting-at : {p q p′ q′ : ℕ} {ps : List Place} {cs : List ℕ} (pair : MeetingPair p q ps cs)
+    → Meet p′ q′ (siteAt ps (pair .first)) (cornerAt cs (pair .first)) (siteAt ps (pair .second)) (cornerAt cs (pair .second))
+    → MeetingPair p′ q′ ps cs
+meeting-at pair = meeting-of (pair .first) (pair .second) (pair .first-listed) (pair .second-listed) (pair .different)
+
+-- ---- monotone
+
+-- "A good choice at h is one at every smaller side."
+pub good-smaller : {h k : ℕ} {ps : List Place} {cs : List ℕ} → k ≤ h → Good h ps cs → Good k ps cs
+good-smaller smaller good =
+    record {
+      corners = good .corners;
+      uncrowded = λ i listed crowded. good .uncrowded i listed (crowded-larger smaller crowded);
+      apart = λ pair. good .apart (meeting-at pair (meet-larger-whole smaller (pair .meet)));
+    }
+
+-- ---- at one
+
+-- At h = 1 every choice of corners is good.
+pub good-at-one : {ps : List Place} {cs : List ℕ} → Distinct ps → Corners (length ps) cs → Good 1 ps cs
+good-at-one places corners =
+    record {
+      corners = corners;
+      uncrowded = λ i listed crowded.
+          places .distinct i (crowded .other) listed (crowded .listed) (Ne·symm (crowded .different))
+          (doubled-covers-one (crowded .covered));
+      apart = λ pair.
+          places .distinct (pair .first) (pair .second) (pair .first-listed) (pair .second-listed) (pair .different)
+          (meet-one (pair .meet));
+    }
+
+-- "A good choice exists at h = 1 always": corner 1 for every site.
+pub good-one-exists : {ps : List Place} → Distinct ps → Good 1 ps (replicate (length ps) 1)
+good-one-exists {ps} places = good-at-one places (record { one-each = length-replicate (length ps) 1; corner = ones })
+  where
+    ones : (i : ℕ) → i < length ps → Corner (cornerAt (replicate (length ps) 1) i)
+    ones i listed = rw (getD-replicate {A = ℕ} (length ps) i 1 0 listed) (record { least = omega arith; most = omega arith })
+
+-- ---- free
+
+module _ {ps : List Place} (range : InRange ps) where
+  -- No two coordinates are further apart than 10,000, so that from the side at which free is judged nothing changes any more.
+  none-further : {i j : ℕ} → i < length ps → j < length ps
+      → (axis : Axis) → dist (along axis (siteAt ps i)) (along axis (siteAt ps j)) ≤ greatestCoordinate
+  none-further {i} {j} i-listed j-listed axis =
+      omega (arith, on-axis (range .in-range i i-listed) axis, on-axis (range .in-range j j-listed) axis)
+
+  -- The labels of a choice that is good there meet at no side, whole or fraction.
+  pub free-apart : {cs : List ℕ} → Good freeSide ps cs → (p q : ℕ) → MeetingPair p q ps cs → ⊥
+  free-apart good p q pair =
+      good .apart (meeting-at pair (λ axis.
+      overlap-at (λ x bound below. omega (arith, none-further (pair .first-listed) (pair .second-listed) axis)) (pair .meet axis)))
+
+  -- "If a good choice exists at 20,001, it is good at every side."
+  pub good-at-free : {cs : List ℕ} → Good freeSide ps cs → (h : ℕ) → Good h ps cs
+  good-at-free good h =
+      record {
+        corners = good .corners;
+        uncrowded = λ i listed crowded.
+            good .uncrowded i listed
+            (crowded-at (λ j j-listed covers axis.
+            record { onward = covers axis .onward; near = omega (arith, none-further listed j-listed axis) }) crowded);
+        apart = free-apart good h 1;
+      }
+
+-- ---- decided
+
+-- Whether a choice is good is decided, by a test.
+pub good-decided : (h : ℕ) (ps : List Place) (cs : List ℕ) → Decides (goodTest h ps cs) (Good h ps cs)
+good-decided = good-decides
+
+-- ---- the first
+
+-- Two lists of the same length are equal, or one comes before the other.
+pub before-or-equal : (cs es : List ℕ) → length cs ≡ length es → (cs ≡ es) ⊎ (Before cs es ⊎ Before es cs)
+before-or-equal [] [] same = inl refl
+before-or-equal [] (e ∷ es) same = absurd (omega arith)
+before-or-equal (c ∷ cs) [] same = absurd (omega arith)
+before-or-equal (c ∷ cs) (e ∷ es) same = go (ℕ-discrete c e) (decLt c e) (before-or-equal cs es (omega arith))
+  where
+    go : Dec (c ≡ e) → Dec (c < e) → (cs ≡ es) ⊎ (Before cs es ⊎ Before es cs)
+        → (c ∷ cs ≡ e ∷ es) ⊎ (Before (c ∷ cs) (e ∷ es) ⊎ Before (e ∷ es) (c ∷ cs))
+    go (yes first) less (inl rest) = inl (cc)
+    go (yes first) less (inr (inl before)) = inr (inl (rw (← first) (later before)))
+    go (yes first) less (inr (inr after)) = inr (inr (rw first (later after)))
+    go (no differ) (yes less) rest = inr (inl (lower less))
+    go (no differ) (no more) rest = let less : e < c = omega arith in inr (inr (lower less))
+
+-- There is at most one first good choice.
+pub first-unique : {h : ℕ} {ps : List Place} {cs es : List ℕ} → First h ps cs → First h ps es → cs ≡ es
+first-unique {h} {ps} {cs} {es} one other =
+    go (before-or-equal cs es (one .good .corners .one-each ∙ sym (other .good .corners .one-each)))
+  where
+    go : (cs ≡ es) ⊎ (Before cs es ⊎ Before es cs) → cs ≡ es
+    go (inl same) = same
+    go (inr (inl before)) = absurd (other .none-before cs (one .good) before)
+    go (inr (inr after)) = absurd (one .none-before es (other .good) after)

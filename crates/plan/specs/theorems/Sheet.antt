@@ -1,0 +1,204 @@
+-- Laws of a sheet: what its answer's part is, its lines, and how long it is.
+-- Assumes nothing.
+use mathlib.Core.Path.{_≡_, refl, ap, _∙_}
+use mathlib.Core.List.{List, [], _∷_}
+use Prim.Native.Nat.{ℕ, suc, _+_, _*_, _≤_, _<_}
+use native.Mathlib.Omega.{arith}
+use borrow.Author.Tests.{ne-eqb}
+use lib.ListN.{length, getD, length-append, length-map}
+use Rattle.placing.specs.declared.units.Place.{Place}
+use Rattle.placing.specs.declared.units.Side.{Side}
+use Rattle.placing.specs.declared.units.Side.the-variants.{Number, Free}
+use Rattle.placing.specs.rules.Units.{freeSide, along, X, Y}
+use Rattle.placing.specs.rules.Corner.{Corner}
+use Rattle.placing.specs.rules.Choice.{Corners, cornerAt, Good}
+use Rattle.placing.specs.rules.Answer.{Answer, IsAnswer, is-free, is-number}
+use Rattle.placing.specs.deciding.Answer.{answerOf}
+use Rattle.placing.specs.theorems.Answer.{answer-is}
+use Rattle.plan.specs.rules.Text.{tab, lineFeed, Without, decimal}
+use Rattle.plan.specs.rules.List.{Site, placesOf, placeOf, noSite, Listed, ByRules, listLine}
+use Rattle.plan.specs.rules.Sheet.{sideWord, sideText, sideLine, siteLine, siteLines, sheetWith, linesOf}
+use Rattle.plan.specs.rules.Calls.{toPlace}
+use Rattle.plan.specs.deciding.Output.{sheetOf, outputFor, outputOf}
+use Rattle.plan.specs.rules.Refusal.{Result, accepted}
+use Rattle.plan.specs.deciding.Reading.{readList}
+use Rattle.plan.specs.theorems.Text.{without-append, lines-more, lines-none, decimal-without, decimal-short, decimal-some, decimal-digit, name-short, name-some}
+use Rattle.plan.specs.calls.Lengths.{mostDigits, longestSiteLine, shortestSiteLine, longestSheet, shortestSheet}
+use Rattle.plan.specs.theorems.Reading.{line-without}
+
+-- ---- what the answer's part of a sheet is
+
+-- The corners of an answer are corners, one for each site.
+pub answer-corners : {ps : List Place} {a : Answer} → IsAnswer ps a → Corners (length ps) (a .corners)
+answer-corners (is-free first) = first .good .corners
+answer-corners (is-number none-free least most first above) = first .good .corners
+
+-- A side is written in at most five bytes,
+side-short : {ps : List Place} {a : Answer} → IsAnswer ps a → length (sideText (a .side)) ≤ mostDigits
+side-short (is-free first) = omega arith
+side-short (is-number {h} none-free least most first above) = decimal-short h (omega arith)
+
+-- in one at least,
+side-some : (side : Side) → 1 ≤ length (sideText side)
+side-some (Number side) = decimal-some (side .0)
+side-some Free = omega arith
+
+-- and none of them is below the digits: no tab and no line feed.
+pub side-without : (b : ℕ) → b < 48 → (side : Side) → Without b (sideText side)
+side-without b below (Number side) = decimal-without (side .0) b below
+side-without b below Free = (omega arith, (omega arith, (omega arith, (omega arith, tt))))
+
+-- A label that is alone is good at every side.
+alone-good : (h : ℕ) (p : Place) → Good h (p ∷ []) (1 ∷ [])
+alone-good h p =
+    record {
+      corners = record { one-each = refl; corner = λ i listed. rw (first i listed) (record { least = omega arith; most = omega arith }) };
+      uncrowded = λ i listed crowded. crowded .different (omega (arith, crowded .listed));
+      apart = λ pair. omega (arith, pair .first-listed, pair .second-listed, pair .different);
+    }
+  where
+    first : (i : ℕ) → i < 1 → i ≡ 0
+    first i listed = omega arith
+
+-- So the side of one site is the word free.
+alone-free : {p : Place} {a : Answer} → IsAnswer (p ∷ []) a → 4 ≤ length (sideText (a .side))
+alone-free (is-free first) = omega arith
+alone-free {p} (is-number none-free least most first above) = absurd (none-free (1 ∷ []) (alone-good freeSide p))
+
+-- ---- the lines of a sheet
+
+-- Sites by the rules, and a corner for each.
+pub data Lined : List Site → List ℕ → Type 0 where
+  no-line : Lined [] []
+  one-more : {site : Site} {sites : List Site} {corner : ℕ} {corners : List ℕ} → ByRules site → Corner corner → Lined sites corners
+      → Lined (site ∷ sites) (corner ∷ corners)
+
+-- They are such from their numbers in list order.
+lined : (sites : List Site) (corners : List ℕ) → length corners ≡ length sites
+    → ((i : ℕ) → i < length sites → ByRules (getD sites i noSite)) → ((i : ℕ) → i < length sites → Corner (cornerAt corners i))
+    → Lined sites corners
+lined [] [] same rules corner = no-line
+lined [] (c ∷ corners) same rules corner = absurd (omega arith)
+lined (site ∷ sites) [] same rules corner = absurd (omega arith)
+lined (site ∷ sites) (c ∷ corners) same rules corner =
+    one-more (rules 0 (omega arith)) (corner 0 (omega arith))
+    (lined sites corners (omega arith) (λ i l. rules (suc i) (omega arith)) (λ i l. corner (suc i) (omega arith)))
+
+-- The sites of a plan with the corners of their answer.
+pub answer-lined : (sites : List Site) → Listed sites → Lined sites (answerOf (placesOf sites) .corners)
+answer-lined sites listed =
+    lined sites (answerOf (placesOf sites) .corners) (corners .one-each ∙ length-map sites placeOf) (listed .by-rules)
+    (λ i below. corners .corner i (omega (arith, length-map sites placeOf)))
+  where
+    corners : Corners (length (placesOf sites)) (answerOf (placesOf sites) .corners)
+    corners = answer-corners (answer-is (placesOf sites) (listed .places-distinct))
+
+-- One line for each site.
+unfoldable pub lineOfEach : List Site → List ℕ → List (List ℕ)
+lineOfEach [] corners = []
+lineOfEach (site ∷ sites) [] = []
+lineOfEach (site ∷ sites) (corner ∷ corners) = siteLine site corner ∷ lineOfEach sites corners
+
+-- No line has a line feed in it: not the first,
+side-line-whole : (side : Side) → Without lineFeed (sideLine side)
+side-line-whole side =
+    without-append lineFeed sideWord (tab ∷ sideText side) (omega arith, (omega arith, (omega arith, (omega arith, tt))))
+    (omega arith, side-without lineFeed (omega arith) side)
+
+-- and not that of a site.
+site-line-whole : {site : Site} (corner : ℕ) → ByRules site → Without lineFeed (siteLine site corner)
+site-line-whole {site} corner rules =
+    without-append lineFeed (listLine site) (tab ∷ decimal corner) (line-without site rules)
+    (omega arith, decimal-without corner lineFeed (omega arith))
+
+-- The lines under the first are those of the sites.
+site-lines : {sites : List Site} {corners : List ℕ} → Lined sites corners → linesOf (siteLines sites corners) ≡ lineOfEach sites corners
+unfolding siteLines lineOfEach
+site-lines no-line = lines-none
+site-lines (one-more {site} {sites} {corner} {corners} rules c rest) =
+    lines-more (siteLine site corner) (siteLines sites corners) (site-line-whole corner rules)
+    ∙ ap (λ (l : List (List ℕ)). siteLine site corner ∷ l) (site-lines rest)
+
+-- A sheet's lines are its side's, then one for each site.
+pub sheet-lines : (sites : List Site) → Listed sites
+    → linesOf (sheetOf sites) ≡ sideLine (answerOf (placesOf sites) .side) ∷ lineOfEach sites (answerOf (placesOf sites) .corners)
+unfolding sheetOf sheetWith
+sheet-lines sites listed =
+    lines-more (sideLine side) (siteLines sites corners) (side-line-whole side)
+    ∙ ap (λ (l : List (List ℕ)). sideLine side ∷ l) (site-lines (answer-lined sites listed))
+  where
+    side : Side
+    side = answerOf (placesOf sites) .side
+
+    corners : List ℕ
+    corners = answerOf (placesOf sites) .corners
+
+-- ---- how long a sheet is
+
+-- How many bytes the line of a site has, with its line feed.
+record Sized (n : ℕ) : Type 0 where
+  least : shortestSiteLine ≤ n + 1
+  most : n + 1 ≤ longestSiteLine
+
+-- The names, coordinates and corners by the rules make it so.
+line-sized : {site : Site} {corner : ℕ} → ByRules site → Corner corner → Sized (length (siteLine site corner))
+unfolding listLine
+line-sized {site} {corner} rules c =
+    let one : length (decimal corner) ≡ 1 = ap length (decimal-digit corner (omega arith)) in
+    let x = decimal-short (along X (site .place)) (omega arith) in
+    let y = decimal-short (along Y (site .place)) (omega arith) in
+    let x-some = decimal-some (along X (site .place)) in
+    let y-some = decimal-some (along Y (site .place)) in
+    let name = name-short (site .name) (rules .named) in
+    let name-is-some = name-some (site .name) (rules .named) in
+    record { least = simp length-append (omega arith); most = simp length-append (omega arith) }
+
+-- So the lines of the sites have at most 23 bytes each, with their line feeds,
+lines-longest : {sites : List Site} {corners : List ℕ} → Lined sites corners → length (siteLines sites corners) ≤ longestSiteLine * length sites
+unfolding siteLines
+lines-longest no-line = omega arith
+lines-longest (one-more {site} {sites} {corner} {corners} rules c rest) =
+    let line = line-sized rules c in
+    let more = lines-longest rest in
+    omega (arith, length-append (siteLine site corner) (lineFeed ∷ siteLines sites corners))
+
+-- and at least 8.
+lines-shortest : {sites : List Site} {corners : List ℕ} → Lined sites corners → shortestSiteLine * length sites ≤ length (siteLines sites corners)
+unfolding siteLines
+lines-shortest no-line = omega arith
+lines-shortest (one-more {site} {sites} {corner} {corners} rules c rest) =
+    let line = line-sized rules c in
+    let more = lines-shortest rest in
+    omega (arith, length-append (siteLine site corner) (lineFeed ∷ siteLines sites corners))
+
+-- The longest sheet.
+pub sheet-longest : (sites : List Site) → Listed sites → length (sheetOf sites) ≤ longestSheet
+unfolding sheetOf sheetWith
+sheet-longest sites listed =
+    let side = side-short (answer-is (placesOf sites) (listed .places-distinct)) in
+    let lines = lines-longest (answer-lined sites listed) in
+    simp length-append (omega (arith, listed .few))
+
+-- One site is free, and more sites have more lines.
+pub sheet-shortest : (sites : List Site) → Listed sites → 1 ≤ length sites → shortestSheet ≤ length (sheetOf sites)
+unfolding sheetOf sheetWith
+sheet-shortest [] listed nonempty = absurd (omega arith)
+sheet-shortest (site ∷ []) listed nonempty =
+    let side = alone-free (answer-is (placesOf (site ∷ [])) (listed .places-distinct)) in
+    let lines = lines-shortest (answer-lined (site ∷ []) listed) in
+    simp length-append (omega arith)
+sheet-shortest (site ∷ next ∷ sites) listed nonempty =
+    let side = side-some (answerOf (placesOf (site ∷ next ∷ sites)) .side) in
+    let lines = lines-shortest (answer-lined (site ∷ next ∷ sites) listed) in
+    simp length-append (omega arith)
+
+-- ---- the output
+
+-- A list of some sites is placed.
+pub some-to-place : (sites : List Site) → 1 ≤ length sites → toPlace (accepted sites) ≡ accepted sites
+some-to-place sites nonempty = rw (ne-eqb (length sites) 0 (λ zero. omega arith))
+
+-- So the output for a text that is read as some sites is their sheet.
+pub output-sheet : (text : List ℕ) (sites : List Site) → readList text ≡ accepted sites → 1 ≤ length sites → outputOf text ≡ sheetOf sites
+unfolding outputOf
+output-sheet text sites read nonempty = ap (λ (r : Result (List Site)). outputFor (toPlace r)) read ∙ ap outputFor (some-to-place sites nonempty)

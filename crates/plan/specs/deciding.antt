@@ -1,3 +1,3 @@
--- The functions that decide how a text is read.
+-- How a text is read and what is written for it, as functions.
 pub mod Reading
 pub mod Output

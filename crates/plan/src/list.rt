@@ -25,7 +25,7 @@ pub(crate) enum LineEnd {
     Missing,
 }
 
-// What reading a line hands back: the answer, the plan afterwards, and where the next line starts.
+// What reading a line hands back: the answer, the plan afterwards, and where the next line starts, or this one where it has no end.
 pub(crate) struct LineRead {
     pub outcome: Outcome,
     pub plan: Plan,

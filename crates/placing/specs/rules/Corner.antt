@@ -19,7 +19,7 @@ upWhere true = Up
 upWhere false = Down
 
 -- The direction of the label at a corner along an axis. "1 puts the label right and up of its site, 2 left and up, 3 left and down, 4
--- right and down." No rule asks it of a number that is no corner.
+-- right and down." What is asked of a choice is asked beside `Corners`.
 abbrev pub toward : Axis → ℕ → Direction
 toward X c = upWhere (eqb c 1 || eqb c 4)
 toward Y c = upWhere (eqb c 1 || eqb c 2)

@@ -29,7 +29,7 @@ longestSheet = longestSideLine + mostSites * longestSiteLine
 abbrev pub shortestSheet : ℕ
 shortestSheet = 4 + 1 + 4 + 1 + shortestSiteLine
 
--- The most bytes of the line of a refusal: the word refused, a tab, five digits, a line feed.
+-- No line of a refusal is longer: the word refused, a tab, a number, a line feed, with room for five digits where two are the most.
 abbrev pub longestRefusalLine : ℕ
 longestRefusalLine = 7 + 1 + mostDigits + 1
 

@@ -102,7 +102,7 @@ abbrev pub isCoordinate : Option ℕ → Bool
 isCoordinate none = false
 isCoordinate (some n) = leb n greatestCoordinate
 
--- A name, an x and a y to enter. Where x or y is no number its place has a 0 for it, which nothing sees: 3 is tested before the place.
+-- A name, an x and a y to enter. Where x or y is no number the place has a 0 for it, which no test sees: 3 is tested before those.
 abbrev pub wantedOf : List ℕ → Option ℕ → Option ℕ → Wanted
 wantedOf name x y =
     record {
@@ -125,7 +125,7 @@ mostLineBytes = 20
 abbrev pub wantedIn : List (List ℕ) → Wanted
 wantedIn fields = wantedOf (getD fields 0 []) (numberIn (getD fields 1 [])) (numberIn (getD fields 2 []))
 
--- The place that is written in a line.
+-- The place that the fields of a line write.
 abbrev pub placeIn : List (List ℕ) → Place
 placeIn fields = wantedIn fields .site .place
 
@@ -153,7 +153,7 @@ lineTests sites line =
     ∷ ltb mostLineBytes (length (line .bytes)) gives BadLine
     ∷ fieldsTests sites (fieldsOf (line .bytes))
 
--- What a line comes to: the sites afterwards.
+-- What a line comes to: the sites afterwards, or its refusal.
 abbrev pub lineEntered : List Site → TextLine → Result (List Site)
 lineEntered sites line = afterTests (lineTests sites line) (withSite sites (wantedIn (fieldsOf (line .bytes))))
 

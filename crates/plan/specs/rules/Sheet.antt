@@ -1,4 +1,4 @@
--- Document 01, "List and sheet" and "What demand 3 counts": a sheet, what is read off its bytes, and what the program writes.
+-- Document 01, "List and sheet" and "What demand 3 counts": a sheet, what is read off its bytes, and the line of a refusal.
 -- Assumes nothing.
 use mathlib.Core.Bool.{true, false, _&&_}
 use mathlib.Core.List.{List, [], _∷_, _++_}
@@ -52,7 +52,7 @@ butLast [] = []
 butLast (part ∷ []) = []
 butLast (part ∷ next ∷ parts) = part ∷ butLast (next ∷ parts)
 
--- The lines of a sheet: each is ended by a line feed, so that nothing stands behind the last.
+-- The lines of a sheet, each ended by a line feed: what stands behind the last line feed, nothing in a sheet, is no line.
 abbrev pub linesOf : List ℕ → List (List ℕ)
 linesOf sheet = butLast (parted lineFeed sheet)
 
@@ -65,7 +65,7 @@ numberOnFields fields =
 abbrev pub numberOn : List ℕ → Option ℕ
 numberOn sheet = numberOnFields (fieldsOf (getD (linesOf sheet) 0 []))
 
--- The place that each line writes. A line with fewer than three fields, or one that is no number, would give 0; no written sheet has one.
+-- The place that each line writes. Where a second or third field is missing or no number it has a 0; no written sheet has such a line.
 unfoldable pub spotsOnLines : List (List ℕ) → List Place
 spotsOnLines [] = []
 spotsOnLines (line ∷ lines) = placeIn (fieldsOf line) ∷ spotsOnLines lines
@@ -88,7 +88,7 @@ carriedLines (line ∷ lines) = joined (butLast (fieldsOf line)) ++ (lineFeed �
 abbrev pub carried : List ℕ → List ℕ
 carried sheet = carriedLines (drop 1 (linesOf sheet))
 
--- ---- what the placing program writes
+-- ---- the line of a refusal
 
 -- "A refusal is written as the word refused, a tab, the number, a line feed."
 abbrev pub refusedWord : List ℕ

@@ -1,4 +1,4 @@
--- Document 01, "Units and limits" and "List and sheet": names, fields, lines and numbers as bytes.
+-- Document 01, "Units and limits" and "List and sheet": names, fields and numbers as bytes.
 -- Assumes nothing.
 use mathlib.Core.Bool.{Bool, true, false, _&&_, _||_}
 use mathlib.Core.List.{List, [], _∷_, _++_}
@@ -30,7 +30,7 @@ sameBytes [] (c ∷ other) = false
 sameBytes (b ∷ bytes) [] = false
 sameBytes (b ∷ bytes) (c ∷ other) = eqb b c && sameBytes bytes other
 
--- ---- fields and lines: "parted by one tab each, each line ended by a line feed (byte 10, decimal)"
+-- ---- tabs, line feeds and fields: "parted by one tab each, each line ended by a line feed (byte 10, decimal)"
 
 abbrev pub tab : ℕ
 tab = 9

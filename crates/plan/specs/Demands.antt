@@ -4,16 +4,19 @@ use mathlib.Core.Path.{_≡_}
 use mathlib.Core.List.{List, [], _++_}
 use mathlib.Core.Option.{some}
 use Prim.Native.Nat.{ℕ, _+_, _*_, _≤_, _<_}
-use lib.ListN.{length, take}
+use lib.ListN.{length, take, drop}
 use Rattle.placing.specs.rules.Choice.{Corners, MeetingPair}
 use Rattle.placing.specs.rules.Answer.{Answer, sideNumber, IsAnswer}
+use Rattle.plan.specs.declared.list.RefusedLine.{RefusedLine}
+use Rattle.plan.specs.declared.list.Stop.{Stop}
+use Rattle.plan.specs.declared.list.Stop.the-variants.{AtLine, Nowhere}
 use Rattle.plan.specs.declared.plan.AskedCorner.{AskedCorner}
 use Rattle.plan.specs.declared.plan.AskedSide.{AskedSide}
 use Rattle.plan.specs.declared.plan.Plan.{Plan}
 use Rattle.plan.specs.declared.plan.Planned.{Planned}
 use Rattle.plan.specs.declared.plan.Written.{Written}
 use Rattle.plan.specs.declared.plan.Written.the-variants.{Bytes, NotWritten}
-use Rattle.plan.specs.rules.Refusal.{numberBy, accepted}
+use Rattle.plan.specs.rules.Refusal.{numberOf, numberBy, accepted}
 use Rattle.plan.specs.rules.List.{Site, placesOf, listText, enterTests, wantedAt, TextLine, FirstLine, lineTests, Reads}
 use Rattle.plan.specs.rules.Sheet.{sheetWith, numberOn, spotsOn, carried, refusalLine}
 use Rattle.plan.specs.deciding.Output.{sheetOf, outputOf}
@@ -76,6 +79,17 @@ pub record AllRead (text : List ℕ) (plan : Plan) : Type 0 where
 pub data ReadTold (text : List ℕ) (r : Planned) : Type 0 where
   read-refused : FirstRefused text (outcomeNumber (r .outcome)) → r .plan ≡ started → ReadTold text r
   read-all : AllRead text (r .plan) → outcomeNumber (r .outcome) ≡ 0 → ReadTold text r
+
+-- Where reading stops, for whoever asks: at that line, by its number and the place where it starts, and for that refusal ..
+pub record StopsAt (text : List ℕ) (stop : RefusedLine) : Type 0 where
+  pub first : FirstRefused text (numberOf (stop .why))
+  pub number-is : stop .number ≡ first .line-number
+  pub starts : drop (stop .at) text ≡ first .rest
+
+-- .. or nowhere, where every line is accepted.
+pub data StopTold (text : List ℕ) : Stop → Type 0 where
+  at-a-line : {stop : RefusedLine} → StopsAt text stop → StopTold text (AtLine stop)
+  at-no-line : {sites : List Site} → Reads [] text (accepted sites) → StopTold text Nowhere
 
 -- A list that is accepted and has some sites.
 pub record Accepts (text : List ℕ) (sites : List Site) : Type 0 where

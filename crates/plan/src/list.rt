@@ -16,8 +16,9 @@ ghost use lib.ListN.{length};
 ghost use Rattle.plan.specs.rules.Text.{fieldsOf};
 ghost use Rattle.plan.specs.calls.Plan.{unplacedPlan, sitesIn, Valid};
 ghost use Rattle.plan.specs.calls.Answers.{handed, readFrom};
-ghost use Rattle.plan.specs.Demands.{ReadTold};
+ghost use Rattle.plan.specs.Demands.{ReadTold, StopTold};
 ghost use Rattle.plan.specs.code.Line.{LineEnds, LineReads, FieldEnd, enteredFields};
+ghost use Rattle.plan.specs.code.Reading.{LinesRead};
 
 // Where a line ends: the place of its line feed, if it has one in time.
 pub(crate) enum LineEnd {
@@ -26,10 +27,24 @@ pub(crate) enum LineEnd {
 }
 
 // What reading a line hands back: the answer, the plan afterwards, and where the next line starts, or this one where it has no end.
+// Reading all lines hands back the same of the last one, with the plan before a refused line and where that starts.
 pub(crate) struct LineRead {
     pub outcome: Outcome,
     pub plan: Plan,
     pub next: usize,
+}
+
+// The line at which reading a list stops: its number, counted from 1, where it starts, and why it is refused.
+pub struct RefusedLine {
+    pub number: usize,
+    pub at: usize,
+    pub why: Refusal,
+}
+
+// Where reading a list stops: at a line that is refused, or nowhere, since every line is accepted.
+pub enum Stop {
+    AtLine(RefusedLine),
+    Nowhere,
 }
 
 // The end of the line that starts at `at`: a line feed behind at most the bytes of a line.
@@ -121,11 +136,9 @@ fn read_line(plan: Plan, text: &[u8], at: usize) -> LineRead
     }
 }
 
-// Reads a whole list into a fresh plan, or refuses it at its first refused line.
-pub fn read(text: &[u8]) -> Planned
-    ensures answer { λ r. ⌜ r ≡ readFrom (now (text .entry)) ⌝ }
-    ensures valid { λ r. ⌜ Valid (r .plan) ⌝ }
-    ensures told { λ r. ⌜ ReadTold (now (text .entry)) r ⌝ }
+// Reads line after line into a fresh plan, up to the first refused line or the text's end.
+fn read_lines(text: &[u8]) -> LineRead
+    ensures { λ r. ⌜ LinesRead (now (text .entry)) r ⌝ }
 {
     let mut plan = Plan::start();
     let mut at = 0;
@@ -133,14 +146,54 @@ pub fn read(text: &[u8]) -> Planned
         let line = read_line(plan, text, at);
         let outcome = line.outcome;
         if let Outcome::Refused(why) = outcome {
-            return refuse(Plan::start(), why);
+            return LineRead {
+                outcome: Outcome::Refused(why),
+                plan,
+                next: at,
+            };
         }
         let more = line.plan;
         plan = more;
         at = line.next;
     }
+    LineRead {
+        outcome: Outcome::Done,
+        plan,
+        next: at,
+    }
+}
+
+// Reads a whole list into a fresh plan, or refuses it at its first refused line.
+pub fn read(text: &[u8]) -> Planned
+    ensures answer { λ r. ⌜ r ≡ readFrom (now (text .entry)) ⌝ }
+    ensures valid { λ r. ⌜ Valid (r .plan) ⌝ }
+    ensures told { λ r. ⌜ ReadTold (now (text .entry)) r ⌝ }
+{
+    let lines = read_lines(text);
+    let outcome = lines.outcome;
+    if let Outcome::Refused(why) = outcome {
+        return refuse(Plan::start(), why);
+    }
+    let plan = lines.plan;
     Planned {
         outcome: Outcome::Done,
         plan,
     }
+}
+
+// The line at which `read` stops.
+pub fn refused_line(text: &[u8]) -> Stop
+    ensures { λ r. ⌜ StopTold (now (text .entry)) r ⌝ }
+{
+    let lines = read_lines(text);
+    let outcome = lines.outcome;
+    let Outcome::Refused(why) = outcome else {
+        return Stop::Nowhere;
+    };
+    let before = lines.plan;
+    Stop::AtLine(RefusedLine {
+        number: before.count + 1,
+        at: lines.next,
+        why,
+    })
 }

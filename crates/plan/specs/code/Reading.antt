@@ -1,27 +1,30 @@
 -- Reading a list line after line: what holds of the plan so far and of the text that is left.
 -- Assumes nothing.
-use mathlib.Core.Path.{_≡_, refl, sym, ap, _∙_}
+use mathlib.Core.Path.{_≡_, refl, sym, ap, _∙_, subst}
 use mathlib.Core.Bool.{Bool, true, false}
-use mathlib.Core.List.{List, []}
+use mathlib.Core.List.{List, [], _∷_, _++_}
 use Prim.Native.Nat.{ℕ, _+_, _≤_, _<_}
 use native.Mathlib.Omega.{arith}
 use borrow.Author.Tests.{le-ltb, lt-ltb}
 use lib.ListN.{length, drop, length-drop, drop-of-length-le}
+use Rattle.placing.specs.rules.Units.{mostSites}
 use Rattle.plan.specs.declared.list.LineEnd.the-variants.{Missing}
 use Rattle.plan.specs.declared.list.LineRead.{LineRead}
+use Rattle.plan.specs.declared.list.Stop.the-variants.{AtLine, Nowhere}
 use Rattle.plan.specs.declared.refusal.Outcome.the-variants.{Done, Refused}
 use Rattle.plan.specs.declared.refusal.Refusal.{Refusal}
 use Rattle.plan.specs.declared.refusal.Refusal.the-variants.{BadLine}
 use Rattle.plan.specs.declared.plan.Plan.{Plan}
 use Rattle.plan.specs.declared.plan.Planned.{Planned}
 use Rattle.plan.specs.rules.Refusal.{Result, accepted, refused}
-use Rattle.plan.specs.rules.Text.{fieldsOf}
-use Rattle.plan.specs.rules.List.{Site, Listed, mostLineBytes, lineEntered, Reads, end, refused-line, accepted-line}
-use Rattle.plan.specs.deciding.Reading.{cutLine, readList}
+use Rattle.plan.specs.rules.Text.{lineFeed, fieldsOf}
+use Rattle.plan.specs.rules.List.{Site, Listed, listText, mostLineBytes, TextLine, FirstLine, lineEntered, Reads, end, refused-line, accepted-line}
+use Rattle.plan.specs.deciding.Reading.{cutLine}
 use Rattle.plan.specs.calls.Plan.{unplacedPlan, sitesIn, Valid, is-unplaced}
 use Rattle.plan.specs.calls.Answers.{started, handed, readFrom}
+use Rattle.plan.specs.Demands.{StopTold, at-a-line, at-no-line}
 use Rattle.plan.specs.theorems.Sites.{listed-none}
-use Rattle.plan.specs.theorems.Reading.{cut-first-line, entered-line, reads-are}
+use Rattle.plan.specs.theorems.Reading.{cut-first-line, first-line-whole, LineOf, entered-line, list-one-more, first-refused, reads-are}
 use Rattle.plan.specs.theorems.Plan.{sites-unplaced}
 use Rattle.plan.specs.code.Line.{between, lineAt, LineAt, LineEnds, enteredFields, LineReads, no-line, a-line}
 use Rattle.plan.specs.code.CallLaws.{refusal-of}
@@ -32,7 +35,15 @@ pub record Reading (text : List ℕ) (plan : Plan) (at : ℕ) : Type 0 where
   pub held : plan ≡ unplacedPlan sites
   pub listed : Listed sites
   pub within : at ≤ length text
+  pub parts : text ≡ listText sites ++ drop at text
   pub onward : (result : Result (List Site)) → Reads sites (drop at text) result → Reads [] text result
+
+-- Reading is over: at a line that is refused, or at the text's end.
+pub data LinesRead (text : List ℕ) : LineRead → Type 0 where
+  stops : {plan : Plan} {at : ℕ} {line : TextLine} {why : Refusal} (so-far : Reading text plan at) → FirstLine (drop at text) line
+      → lineEntered (so-far .sites) line ≡ refused why → LinesRead text (record { outcome = Refused why; plan = plan; next = at })
+  ends : {plan : Plan} {at : ℕ} → Reading text plan at → length text ≤ at
+      → LinesRead text (record { outcome = Done; plan = plan; next = at })
 
 -- What an answer tells of what a call came to.
 module _ (plan : Plan) {r : Planned} where
@@ -48,33 +59,26 @@ module _ (plan : Plan) {r : Planned} where
 
 -- At the start, with the empty plan.
 pub reading-starts : (text : List ℕ) (plan : Plan) → plan ≡ started → Reading text plan 0
+unfolding listText
 reading-starts text plan empty =
-    record { sites = []; held = empty; listed = listed-none; within = omega arith; onward = λ result reads. reads }
-
--- A text that is refused hands back an empty plan.
-pub reading-answers : (text : List ℕ) {fresh : Plan} {why : Refusal} {r : Planned} → (fresh ≡ started) × Valid fresh
-    → r ≡ refusal-of fresh why → readList text ≡ refused why → (r ≡ readFrom text) × Valid (r .plan)
-reading-answers text {why = why} empty is refuses =
-    let answer = is ∙ ap (λ (p : Plan). refusal-of p why) (empty .0) in
-    (answer ∙ ap (handed unplacedPlan started) (sym refuses), rw is (empty .1))
+    record { sites = []; held = empty; listed = listed-none; within = omega arith; parts = refl; onward = λ result reads. reads }
 
 module _ {text : List ℕ} {plan : Plan} {at : ℕ} (so-far : Reading text plan at) where
   -- The plan so far is one that the calls hand back.
   pub reading-valid : Valid plan
   reading-valid = rw (so-far .held) (is-unplaced (so-far .sites) (so-far .listed))
 
-  -- At the text's end, the whole text is read into the plan.
-  pub reading-ends : length text ≤ at → record { outcome = Done; plan = plan } ≡ readFrom text
-  reading-ends past =
-      let all = reads-are (so-far .onward (accepted (so-far .sites)) (rw (drop-of-length-le text past) end)) in
-      ap (λ (p : Plan). record { outcome = Done; plan = p }) (so-far .held) ∙ ap (handed unplacedPlan started) (sym all)
+  -- At the text's end, every line is accepted.
+  reading-all : length text ≤ at → Reads [] text (accepted (so-far .sites))
+  reading-all past = so-far .onward (accepted (so-far .sites)) (rw (drop-of-length-le text past) end)
 
-  -- Before it, without a whole line from there on, it is refused.
-  reading-missing : at < length text → LineEnds text at Missing → readList text ≡ refused BadLine
+  -- Before it, without a whole line from there on, reading stops.
+  reading-missing : at < length text → LineEnds text at Missing
+      → LinesRead text (record { outcome = Refused BadLine; plan = plan; next = at })
   reading-missing further missing =
       let line = cutLine (drop at text) in
       let first = cut-first-line (drop at text) (omega (arith, length-drop at text)) in
-      reads-are (so-far .onward (refused BadLine) (refused-line first (by-end (line .ended) (line .bytes) (line .rest) (missing line first))))
+      stops so-far first (by-end (line .ended) (line .bytes) (line .rest) (missing line first))
     where
       by-end : (ended : Bool) (bytes rest : List ℕ) → (ended ≡ true → mostLineBytes < length bytes)
           → lineEntered (so-far .sites) (record { bytes = bytes; ended = ended; rest = rest }) ≡ refused BadLine
@@ -93,30 +97,84 @@ module _ {text : List ℕ} {plan : Plan} {at : ℕ} (so-far : Reading text plan 
         (le-ltb mostLineBytes (length (between text at end)) (found .short))
         (ap (λ (s : List Site). enteredFields s (fieldsOf (between text at end))) (sym sites-so-far))
 
-    -- Refused, so is the text.
-    reading-refused : {why : Refusal} → r .outcome ≡ Refused why → readList text ≡ refused why
-    reading-refused {why} so =
-        reads-are (so-far .onward (refused why) (refused-line (found .first) (line-is ∙ answer-refused plan _ is so)))
+    -- Refused, reading stops.
+    reading-refused : {why : Refusal} → r .outcome ≡ Refused why
+        → LinesRead text (record { outcome = Refused why; plan = plan; next = at })
+    reading-refused so = stops so-far (found .first) (line-is ∙ answer-refused plan _ is so)
 
     -- Accepted, one line more is read.
     reading-on : r .outcome ≡ Done → Reading text (r .plan) (end + 1)
     reading-on so =
         let (next, accepts, held) = answer-done plan _ is so in
+        let line : LineOf (so-far .sites) (lineAt text at end) next = entered-line (line-is ∙ accepts) in
         record {
           sites = next;
           held = held;
-          listed = entered-line {sites = so-far .sites} {line = lineAt text at end} (line-is ∙ accepts) .next-listed (so-far .listed);
+          listed = line .next-listed (so-far .listed);
           within = omega (arith, found .inside);
+          parts =
+              so-far .parts
+              ∙ ap (λ (l : List ℕ). listText (so-far .sites) ++ l) (first-line-whole (found .first) refl)
+              ∙ ap (λ (l : List ℕ). listText (so-far .sites) ++ (l ++ (lineFeed ∷ drop (end + 1) text))) (line .written)
+              ∙ list-one-more (so-far .sites) (line .site) (drop (end + 1) text)
+              ∙ ap (λ (s : List Site). listText s ++ drop (end + 1) text) (sym (line .next-is));
           onward = λ result reads. so-far .onward result (accepted-line (found .first) (line-is ∙ accepts) reads);
         }
 
-  -- Where reading a line is refused, so is the text.
-  pub line-refuses : {r : LineRead} {why : Refusal} → at < length text → LineReads plan text at r → r .outcome ≡ Refused why
-      → readList text ≡ refused why
-  line-refuses {why = why} further (no-line missing) so = let same : BadLine ≡ why = cc in reading-missing further missing ∙ ap refused same
-  line-refuses further (a-line entered found is) so = reading-refused found is so
+  -- Where reading a line is refused, reading stops there.
+  pub line-stops : {r : LineRead} {why : Refusal} → at < length text → LineReads plan text at r → r .outcome ≡ Refused why
+      → LinesRead text (record { outcome = Refused why; plan = plan; next = at })
+  line-stops {why = why} further (no-line missing) so =
+      let same : BadLine ≡ why = cc in
+      subst (λ (w : Refusal). LinesRead text (record { outcome = Refused w; plan = plan; next = at })) same (reading-missing further missing)
+  line-stops further (a-line entered found is) so = reading-refused found is so
 
   -- Where it is accepted, one line more is read, and the next one starts further on.
   pub line-on : {r : LineRead} → LineReads plan text at r → r .outcome ≡ Done → Reading text (r .plan) (r .next) × (at < r .next)
   line-on (no-line missing) so = let z : _≡_ {A = ℕ} 0 1 = cc in absurd (omega arith)
   line-on (a-line entered found is) so = (reading-on found is so, omega (arith, found .after))
+
+-- ---- reading is over
+
+module _ {text : List ℕ} where
+  -- Where it stopped at a line, the text is refused, and a refusal hands back an empty plan.
+  pub lines-refused : {r : LineRead} {why : Refusal} {fresh : Plan} {planned : Planned} → LinesRead text r → r .outcome ≡ Refused why
+      → (fresh ≡ started) × Valid fresh → planned ≡ refusal-of fresh why → (planned ≡ readFrom text) × Valid (planned .plan)
+  lines-refused {why = why} (stops {why = other} so-far first refuses) so empty is =
+      let same : other ≡ why = cc in
+      let all = reads-are (so-far .onward (refused other) (refused-line first refuses)) ∙ ap refused same in
+      let answer = is ∙ ap (λ (p : Plan). refusal-of p why) (empty .0) in
+      (answer ∙ ap (handed unplacedPlan started) (sym all), rw is (empty .1))
+  lines-refused (ends so-far past) so empty is = let z : _≡_ {A = ℕ} 0 1 = cc in absurd (omega arith)
+
+  -- The plan holds at most 240 sites.
+  pub lines-few : {r : LineRead} → LinesRead text r → r .plan .count ≤ mostSites
+  unfolding unplacedPlan
+  lines-few (stops so-far first refuses) = omega (arith, so-far .listed .few, ap (λ (p : Plan). p .count) (so-far .held))
+  lines-few (ends so-far past) = omega (arith, so-far .listed .few, ap (λ (p : Plan). p .count) (so-far .held))
+
+  -- That line is the first refused one.
+  pub lines-stop : {r : LineRead} {why : Refusal} → LinesRead text r → r .outcome ≡ Refused why
+      → StopTold text (AtLine (record { number = r .plan .count + 1; at = r .next; why = why }))
+  unfolding first-refused unplacedPlan
+  lines-stop {why = why} (stops {why = other} so-far first refuses) so =
+      let same : other ≡ why = cc in
+      at-a-line (record {
+        first = first-refused (so-far .sites) _ (so-far .parts) (so-far .listed) first (refuses ∙ ap refused same);
+        number-is = ap (λ (p : Plan). p .count + 1) (so-far .held);
+        starts = refl;
+      })
+  lines-stop (ends so-far past) so = let z : _≡_ {A = ℕ} 0 1 = cc in absurd (omega arith)
+
+  -- Where it stopped nowhere, the whole text is read into the plan.
+  pub lines-done : {r : LineRead} → LinesRead text r → r .outcome ≡ Done → (record { outcome = Done; plan = r .plan } ≡ readFrom text) × Valid (r .plan)
+  lines-done (stops so-far first refuses) so = let z : _≡_ {A = ℕ} 0 1 = cc in absurd (omega arith)
+  lines-done (ends so-far past) so = (
+    ap (λ (p : Plan). record { outcome = Done; plan = p }) (so-far .held)
+        ∙ ap (handed unplacedPlan started) (sym (reads-are (reading-all so-far past))),
+    reading-valid so-far,
+  )
+
+  pub lines-nowhere : {r : LineRead} → LinesRead text r → r .outcome ≡ Done → StopTold text Nowhere
+  lines-nowhere (stops so-far first refuses) so = let z : _≡_ {A = ℕ} 0 1 = cc in absurd (omega arith)
+  lines-nowhere (ends so-far past) so = at-no-line (reading-all so-far past)

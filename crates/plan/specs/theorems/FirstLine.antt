@@ -1,21 +1,23 @@
--- The first refused line: whoever finds a line that is refused behind accepted lines finds the same one, with the same number; and a text
--- that is accepted has none.
+-- The first refused line: whoever finds a line that is refused behind accepted lines finds the same one, with the same number; a text
+-- that is accepted has none; and reading stops there.
 -- Assumes nothing.
 use mathlib.Core.Path.{_≡_, refl, sym, ap, _∙_}
 use mathlib.Core.Bool.{true}
 use mathlib.Core.List.{List, [], _∷_, _++_, append-assoc, append-nil}
 use mathlib.Core.Option.{Option, some, none}
-use Prim.Native.Nat.{ℕ, suc}
+use Prim.Native.Nat.{ℕ, suc, _<_}
 use native.Mathlib.Omega.{arith}
-use lib.ListN.{length, length-append}
+use lib.ListN.{length, length-append, length-drop}
 use lib.Seq.{append-snoc}
+use Rattle.plan.specs.declared.list.RefusedLine.{RefusedLine}
+use Rattle.plan.specs.declared.list.Stop.the-variants.{AtLine, Nowhere}
 use Rattle.plan.specs.declared.refusal.Refusal.{Refusal}
 use Rattle.plan.specs.rules.Refusal.{numberOf, firstRefusal, refusalNumber, Result, accepted, refused, unless}
 use Rattle.plan.specs.rules.Text.{lineFeed}
 use Rattle.plan.specs.rules.List.{Site, ByRules, Listed, listLine, listText, lineTests, lineEntered}
 use Rattle.plan.specs.rules.List.{TextLine, FirstLine, with-feed, Reads, end, refused-line, accepted-line}
 use Rattle.plan.specs.deciding.Reading.{cutLine, readList}
-use Rattle.plan.specs.Demands.{FirstRefused, Accepts, ListRefused, at-line, no-sites}
+use Rattle.plan.specs.Demands.{FirstRefused, StopsAt, StopTold, at-a-line, at-no-line, Accepts, ListRefused, at-line, no-sites}
 use Rattle.plan.specs.theorems.Tables.{refused-not-accepted}
 use Rattle.plan.specs.theorems.Sites.{listed-site}
 use Rattle.plan.specs.theorems.Entering.{listed-passed}
@@ -109,3 +111,22 @@ first-refused-one {text} f g =
     let count-f = accepted-before (reads-list text) (f .before) (f .parts) (before-listed f) (f .line-is) (why-f .1) in
     let count-g = accepted-before (reads-list text) (g .before) (g .parts) (before-listed g) (g .line-is) (why-g .1) in
     (omega (arith, f .line-number-is, g .line-number-is), why-f .2 ∙ ap numberOf same ∙ sym (why-g .2))
+
+-- ---- where reading stops
+
+-- It stops at a byte of the text.
+pub stop-inside : {text : List ℕ} {stop : RefusedLine} → StopsAt text stop → stop .at < length text
+stop-inside {text} {stop} stops =
+    let some-byte = rest-shorter (stops .first .line-is) in
+    omega (arith, some-byte, ap length (stops .starts), length-drop (stop .at) text)
+
+-- The line and its number are told in one way.
+pub stop-one : {text : List ℕ} {one other : RefusedLine} → StopTold text (AtLine one) → StopTold text (AtLine other)
+    → (one .number ≡ other .number) × (numberOf (one .why) ≡ numberOf (other .why))
+stop-one (at-a-line one) (at-a-line other) =
+    let both = first-refused-one (one .first) (other .first) in
+    (one .number-is ∙ both .0 ∙ sym (other .number-is), both .1)
+
+-- Where it stops at a line, not every line is accepted.
+pub stop-or-nowhere : {text : List ℕ} {stop : RefusedLine} → StopTold text (AtLine stop) → StopTold text Nowhere → ⊥
+stop-or-nowhere (at-a-line stops) (at-no-line reads) = refused-not-read (stops .first) (reads-are reads)

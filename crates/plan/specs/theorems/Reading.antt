@@ -258,6 +258,16 @@ lines-read before (site ∷ after) {rest} {result} listed further =
     rw (append-assoc (listLine site) (lineFeed ∷ listText after) rest)
     (accepted-line (with-feed {bytes = listLine site} (line-without site rules)) passes behind)
 
+-- One line more behind those of some sites.
+pub list-one-more : (sites : List Site) (site : Site) (rest : List ℕ)
+    → listText sites ++ (listLine site ++ (lineFeed ∷ rest)) ≡ listText (sites ++ (site ∷ [])) ++ rest
+unfolding listText
+list-one-more [] site rest = sym (append-assoc (listLine site) (lineFeed ∷ []) rest)
+list-one-more (first ∷ sites) site rest =
+    append-assoc (listLine first) (lineFeed ∷ listText sites) (listLine site ++ (lineFeed ∷ rest))
+    ∙ ap (λ (l : List ℕ). listLine first ++ (lineFeed ∷ l)) (list-one-more sites site rest)
+    ∙ sym (append-assoc (listLine first) (lineFeed ∷ listText (sites ++ (site ∷ []))) rest)
+
 -- Where reading ends: at the end of the text, or at a line that is refused.
 data Ends (sites : List Site) : List ℕ → Result (List Site) → Type 0 where
   at-end : Ends sites [] (accepted sites)
@@ -302,6 +312,23 @@ read-to {sites} {text} {result} listed (accepted-line {line} first is further) =
 pub list-read : (sites : List Site) → Listed sites → readList (listText sites) ≡ accepted sites
 list-read sites listed = reads-are (rw append-nil at (lines-read [] sites listed end))
 
+-- A line that is refused behind those of sites by the rules is the first that is.
+unfoldable pub first-refused : {text : List ℕ} (before : List Site) (rest : List ℕ) {line : TextLine} {why : Refusal} → text ≡ listText before ++ rest
+    → Listed before → FirstLine rest line → lineEntered before line ≡ refused why → FirstRefused text (numberOf why)
+first-refused before rest {line} {why} parts listed first is =
+    record {
+      line-number = length before + 1;
+      before = before;
+      rest = rest;
+      line = line;
+      line-number-is = refl;
+      parts = parts;
+      accepted-before = reads-so (list-read before listed);
+      line-is = first;
+      some-number = number-some why;
+      number-is = sym (ap refusalNumber (unless-refused (firstRefusal (lineTests before line)) _ is));
+    }
+
 -- What is read into sites is the list of them, and they are by the rules; what is refused has a first refused line.
 abbrev Came : List ℕ → Result (List Site) → Type 0
 Came text (accepted sites) = Listed sites × (listText sites ≡ text)
@@ -313,19 +340,7 @@ read-came text = by-end _ (read-to listed-none (reads-list text))
     by-ends : (added : List Site) (rest : List ℕ) (result : Result (List Site)) → text ≡ listText added ++ rest → Listed added
         → Ends added rest result → Came text result
     by-ends added rest result parts listed at-end = (listed, sym (parts ∙ append-nil (listText added)))
-    by-ends added rest result parts listed (at-line {line} {why} first is) =
-        record {
-          line-number = length added + 1;
-          before = added;
-          rest = rest;
-          line = line;
-          line-number-is = refl;
-          parts = parts;
-          accepted-before = reads-so (list-read added listed);
-          line-is = first;
-          some-number = number-some why;
-          number-is = sym (ap refusalNumber (unless-refused (firstRefusal (lineTests added line)) _ is));
-        }
+    by-ends added rest result parts listed (at-line first is) = first-refused added rest parts listed first is
 
     by-end : (result : Result (List Site)) → ReadTo [] text result → Came text result
     by-end result to = by-ends (to .added) (to .rest) result (to .parts) (to .listed) (to .ends)

@@ -1,85 +1,35 @@
--- `plan::list::read` meets its contract. The loop's invariant: the lines up to `at` are entered, and the rest gives what the whole text gives.
--- Assumes nothing.
-use Prim.Native.Nat.{_-_}
-use native.Mathlib.Omega.{arith}
-use lib.ListN.{length}
+-- `plan::list::read` meets its contract: by where reading its lines stops. Assumes nothing.
 use borrow.Author.Needs.{needs}
-use Rattle.plan.specs.code.Reading.{Reading, reading-starts, reading-valid, reading-ends, reading-answers}
-use Rattle.plan.specs.code.Reading.{line-refuses, line-on}
+use Rattle.plan.specs.code.Reading.{lines-refused, lines-done}
 use Rattle.plan.specs.theorems.Reading.{read-told}
 use Rattle.plan.proofs.list.read.Statement.{statement}
 use Rattle.plan.proofs.list.read.Tie as tie
 
-abbrev Inv-loop : tie.InvT-loop
-Inv-loop text plan₀ at₀ plan at = Reading text plan at
+read-lines-requires : tie.Need-read-lines-requires
+read-lines-requires c κs = search needs
 
-abbrev μ-loop : tie.MeasureT-loop
-μ-loop text plan₀ at₀ plan at = length text - at
-
-start-requires : tie.Need-start-requires Inv-loop μ-loop
-start-requires c κs = search needs
-
-loop-holds : tie.Need-loop-holds Inv-loop μ-loop
-loop-holds c = reading-starts _ _ (c .start .ensures .0)
-
-read-line-requires : tie.Need-read-line-requires Inv-loop μ-loop
-read-line-requires c κs = (reading-valid (c .before .loop .inv), c .before .loop .inv .within)
-
-enum-known-outcome : tie.Need-enum-known-outcome Inv-loop μ-loop
+enum-known-outcome : tie.Need-enum-known-outcome
 enum-known-outcome c = search needs
 
-start-requires-2 : tie.Need-start-requires-2 Inv-loop μ-loop
-start-requires-2 c κs = search needs
+start-requires : tie.Need-start-requires
+start-requires c κs = search needs
 
-refuse-requires : tie.Need-refuse-requires Inv-loop μ-loop
+refuse-requires : tie.Need-refuse-requires
 refuse-requires c κs = search needs
 
-returns : tie.Need-returns Inv-loop μ-loop
+returns : tie.Need-returns
 returns c =
     let told = c .before .before .before in
-    let line = told .before .before in
-    let turn = line .before in
-    read-told _ (reading-answers _ (c .before .start2 .ensures) (c .refuse .ensures)
-    (line-refuses (turn .before .loop .inv) (turn .loop-test .taken) (line .read-line .ensures) (told .outcome .given .1)))
+    read-told _
+    (lines-refused (told .before .before .read-lines .ensures) (told .outcome .given .1) (c .before .start .ensures) (c .refuse .ensures))
 
-enum-told : tie.Need-enum-told Inv-loop μ-loop
+enum-told : tie.Need-enum-told
 enum-told c = search needs
 
-loop-less : tie.Need-loop-less Inv-loop μ-loop
-loop-less c =
-    let done = c .before in
-    let line = done .before .before in
-    let turn = line .before in
-    omega (
-      arith,
-      turn .loop-test .taken,
-      line-on (turn .before .loop .inv) (line .read-line .ensures) (done .enum-told .given .1) .1,
-    )
-
-loop-again : tie.Need-loop-again Inv-loop μ-loop
-loop-again c =
-    let done = c .before in
-    let line = done .before .before in
-    let turn = line .before in
-    line-on (turn .before .loop .inv) (line .read-line .ensures) (done .enum-told .given .1) .0
-
-returns-2 : tie.Need-returns-2 Inv-loop μ-loop
-returns-2 c = read-told _ (reading-ends (c .before .loop .inv) (c .loop-test .left), reading-valid (c .before .loop .inv))
+returns-2 : tie.Need-returns-2
+returns-2 c = read-told _ (lines-done (c .before .before .before .read-lines .ensures) (c .before .enum-told .given .1))
 
 pub read-spec : {M : Type 1} → statement M
 read-spec =
     tie.close
-    (tie.spec
-    Inv-loop
-    μ-loop
-    start-requires
-    loop-holds
-    read-line-requires
-    enum-known-outcome
-    start-requires-2
-    refuse-requires
-    returns
-    enum-told
-    loop-less
-    loop-again
-    returns-2)
+    (tie.spec read-lines-requires enum-known-outcome start-requires refuse-requires returns enum-told returns-2)

@@ -3,10 +3,10 @@
 use mathlib.Core.Path.{_≡_}
 use mathlib.Core.List.{List}
 use Prim.Native.Nat.{ℕ, _≤_}
-use lib.ListN.{length, take}
+use lib.ListN.{length, getD, take}
 use Rattle.plan.specs.rules.List.{longestText}
 use Rattle.plan.specs.deciding.Output.{outputOf}
-use Rattle.plan.specs.Demands.{Answered}
+use Rattle.plan.specs.Demands.{ListRefused, Answered}
 use Rattle.place.specs.declared.answer.Reading.{Reading}
 use Rattle.place.specs.declared.answer.Answer.{Answer}
 use Rattle.place.specs.declared.answer.Answer.the-variants.{Output, Unread}
@@ -43,7 +43,18 @@ abbrev pub Replied : (start room : List ℕ) → Answer → List ℕ → Type 0
 Replied start room (Output reading n) buffer = Whole start room reading n buffer
 Replied start room (Unread reading) buffer = CutShort start room reading
 
--- What is to be written lies within the buffer.
-abbrev pub Within : Answer → List ℕ → Type 0
-Within (Output reading n) buffer = n ≤ length buffer
-Within (Unread reading) buffer = Unit {0}
+-- The list is refused, with some number.
+abbrev pub ListIsRefused : List ℕ → Type 0
+ListIsRefused text = (number : ℕ) × ListRefused text number
+
+-- The bytes read lie within the room, and what is to be written within the buffer. Where that starts with the letter r, of the word
+-- refused, the list is.
+pub record Ready (room : List ℕ) (reading : Reading) (n : ℕ) (buffer : List ℕ) : Type 0 where
+  pub read-within : reading .at ≤ length room
+  pub output-within : n ≤ length buffer
+  pub is-refused : getD buffer 0 0 ≡ 114 → ListIsRefused (take (reading .at) room)
+
+-- An answer that can be written.
+abbrev pub Writable : Answer → (room buffer : List ℕ) → Type 0
+Writable (Output reading n) room buffer = Ready room reading n buffer
+Writable (Unread reading) room buffer = Unit {0}

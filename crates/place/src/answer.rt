@@ -1,6 +1,7 @@
 // Reading the list from standard input, and writing its answer. Nothing but `answer_input` is seen outside, so that no answer and no
 // reading can be made up elsewhere.
-use libc::STDERR_FILENO;
+use crate::explain::tell_refused;
+use crate::tell::tell;
 use libc::STDIN_FILENO;
 use libc::STDOUT_FILENO;
 use plan::limits::TextLimits;
@@ -10,7 +11,7 @@ ghost use Prim.Native.Nat.{_≤_, _<_};
 ghost use lib.ListN.{length};
 ghost use Rattle.place.specs.Input.{Finished, ReadBehind, InputReads, bytesOf, roomLeft, stepOf};
 ghost use Rattle.plan.specs.rules.List.{longestText};
-ghost use Rattle.place.specs.Reply.{Replied, Within};
+ghost use Rattle.place.specs.Reply.{Replied, Writable};
 
 // What one read did: it brought so many bytes, or found the end of the input, or failed.
 enum Step {
@@ -112,16 +113,22 @@ fn reply(text: &mut [u8], buffer: &mut [u8; TextLimits::SHEET]) -> Answer
     Answer::Output(reading, output(&text[..n], buffer))
 }
 
-// Writes the answer: the output, or a line on standard error where there is none or it cannot be written.
-fn write_answer(answer: Answer, buffer: [u8; TextLimits::SHEET])
-    requires { ⌜ Within answer buffer ⌝ }
+// Writes the answer: the output, and why the list is refused where it is; or what cannot be read or written.
+fn write_answer(answer: Answer, text: &[u8], buffer: [u8; TextLimits::SHEET])
+    requires { ⌜ Writable answer (now text) buffer ⌝ }
 {
-    let Answer::Output(_, n) = answer else {
-        io::write_all(STDERR_FILENO, b"place: standard input cannot be read\n");
+    let Answer::Output(reading, n) = answer else {
+        tell(b"place: standard input cannot be read\n");
         return;
     };
     if !io::write_all(STDOUT_FILENO, &buffer[..n]) {
-        io::write_all(STDERR_FILENO, b"place: standard output cannot be written\n");
+        tell(b"place: standard output cannot be written\n");
+        return;
+    }
+    // A refusal starts with the word refused, a sheet with the word side.
+    if buffer[0] == b'r' {
+        let at = reading.at;
+        tell_refused(&text[..at]);
     }
 }
 
@@ -129,5 +136,6 @@ fn write_answer(answer: Answer, buffer: [u8; TextLimits::SHEET])
 pub(crate) fn answer_input() {
     let mut text = [0u8; TextLimits::TEXT];
     let mut buffer = [0u8; TextLimits::SHEET];
-    write_answer(reply(&mut text, &mut buffer), buffer);
+    let answer = reply(&mut text, &mut buffer);
+    write_answer(answer, &text, buffer);
 }

@@ -1,0 +1,36 @@
+-- From where reading stops to what is told of it, for the proof of `explain`.
+-- Assumes nothing.
+use mathlib.Core.Path.{_≡_, sym, ap, _∙_}
+use mathlib.Core.List.{List}
+use Prim.Native.Nat.{ℕ, _-_, _<_}
+use lib.ListN.{length, take, drop, length-drop}
+use lib.Seq.{take-length}
+use Rattle.plan.specs.declared.list.RefusedLine.{RefusedLine}
+use Rattle.plan.specs.declared.list.Stop.the-variants as stop
+use Rattle.plan.specs.rules.List.{TextLine}
+use Rattle.plan.specs.deciding.Reading.{cutLine}
+use Rattle.plan.specs.Demands.{StopTold, at-a-line, at-no-line}
+use Rattle.plan.specs.theorems.Reading.{first-line-cut}
+use Rattle.plan.specs.theorems.FirstLine.{stop-inside}
+use Rattle.hints.specs.declared.Explanation.the-variants.{AtLine, NoLine}
+use Rattle.hints.specs.declared.Hint.{Hint}
+use Rattle.hints.specs.Hint.{hintOf}
+use Rattle.hints.specs.Explained.{Explained, at-line, no-line}
+
+module _ {text : List ℕ} where
+  -- Nowhere, every line is accepted.
+  pub nowhere-explained : StopTold text stop.Nowhere → Explained text NoLine
+  nowhere-explained (at-no-line reads) = no-line reads
+
+  -- A line starts within the text,
+  pub line-inside : {line : RefusedLine} → StopTold text (stop.AtLine line) → line .at < length text
+  line-inside (at-a-line stops) = stop-inside stops
+
+  -- and the hint for the first line of what starts there is the hint for it.
+  pub line-explained : {line : RefusedLine} {hint : Hint} → StopTold text (stop.AtLine line)
+      → hint ≡ hintOf (line .number) (cutLine (take (length text - line .at) (drop (line .at) text)))
+      → Explained text (AtLine (line .number) (line .why) hint)
+  line-explained {line} (at-a-line stops) is =
+      let onward = ap (λ (n : ℕ). take n (drop (line .at) text)) (sym (length-drop (line .at) text)) ∙ take-length (drop (line .at) text) in
+      let this = ap cutLine (onward ∙ stops .starts) ∙ first-line-cut (stops .first .line-is) in
+      at-line (stops .first) (stops .number-is) (is ∙ ap (λ (l : TextLine). hintOf (line .number) l) this)

@@ -1,0 +1,64 @@
+// Why a list is refused, on standard error: the line, the rule in words, and a hint where a common cause shows in the line's bytes.
+use crate::tell::tell;
+use hints::Explanation;
+use hints::Hint;
+use hints::explain;
+use libc::STDERR_FILENO;
+use plan::refusal::Refusal;
+ghost use Rattle.place.specs.Reply.{ListIsRefused};
+
+// The rule in words; no line is refused for any but these.
+fn tell_rule(why: Refusal) {
+    match why {
+        Refusal::BadLine => tell(
+            b"a line of other than three fields, over 20 bytes, or without its line feed\n",
+        ),
+        Refusal::BadName => tell(b"a name outside the rule\n"),
+        Refusal::BadCoordinate => tell(b"a coordinate outside the rule\n"),
+        Refusal::NameTaken => tell(b"a name already in the plan\n"),
+        Refusal::PlaceTaken => tell(b"a place already in the plan\n"),
+        _ => tell(b"a site where 240 stand\n"),
+    }
+}
+
+// The hint in words, where there is one.
+fn tell_hint(hint: Hint) {
+    match hint {
+        Hint::ByteOrderMark => tell(
+            b"place: hint: it starts with a byte order mark; save the list as plain text without one\n",
+        ),
+        Hint::Empty => tell(b"place: hint: it is empty; leave no empty lines\n"),
+        Hint::CarriageReturn => tell(
+            b"place: hint: it ends in a carriage return; end each line with a line feed alone\n",
+        ),
+        Hint::NoLineFeed => tell(
+            b"place: hint: it has no line feed at its end; the last line needs one too\n",
+        ),
+        Hint::Heading => tell(b"place: hint: it looks like a heading row; leave that out\n"),
+        Hint::EndTab => tell(b"place: hint: it ends in a tab; nothing follows y\n"),
+        Hint::Separator => tell(
+            b"place: hint: it has a space, a comma or a semicolon; part the fields by one tab each\n",
+        ),
+        Hint::LowerCase => tell(
+            b"place: hint: it has lower-case letters; a name has A to Z, 0 to 9 and hyphen\n",
+        ),
+        Hint::Point => tell(b"place: hint: it has a point; a coordinate is in whole units\n"),
+        Hint::NoHint => {}
+    }
+}
+
+// Why this list is refused: at its first refused line, or since it has no sites.
+pub(crate) fn tell_refused(text: &[u8])
+    requires { ⌜ ListIsRefused (now text) ⌝ }
+{
+    let explained = explain(text);
+    let Explanation::AtLine(number, why, hint) = explained else {
+        tell(b"place: a list of no sites\n");
+        return;
+    };
+    tell(b"place: line ");
+    io::print_decimal(STDERR_FILENO, number as u64);
+    tell(b": ");
+    tell_rule(why);
+    tell_hint(hint);
+}

@@ -1,0 +1,14 @@
+// What the program does, for whoever starts it with an argument: it takes none.
+use crate::tell::tell;
+
+pub(crate) fn tell_usage() {
+    tell(b"usage: place < LIST > SHEET\n");
+    tell(b"Places a square label for each site of a car park level. There are no arguments.\n");
+    tell(b"LIST has one site a line: name, x, y, with one tab between them, and a line feed\n");
+    tell(b"at the end of each line. A name is 1 to 8 of A to Z, 0 to 9 and hyphen; x and y\n");
+    tell(b"are whole units from 0 to 10000. At most 240 sites; no name and no place twice.\n");
+    tell(b"SHEET has the word side and the side in half units, or free, and then the list\n");
+    tell(b"with a corner for each site: 1 right and up, 2 left and up, 3 left and down, 4\n");
+    tell(b"right and down. A list outside the rules gives the word refused and a number,\n");
+    tell(b"and standard error says which line it is and why. Nothing was read or written.\n");
+}

@@ -35,7 +35,7 @@ fn tell_hint(hint: Hint) {
             b"place: hint: it has no line feed at its end; the last line needs one too\n",
         ),
         Hint::Heading => tell(b"place: hint: it looks like a heading row; leave that out\n"),
-        Hint::EndTab => tell(b"place: hint: it ends in a tab; nothing follows y\n"),
+        Hint::EndTab => tell(b"place: hint: it ends in a tab with nothing behind it\n"),
         Hint::Separator => tell(
             b"place: hint: it has a space, a comma or a semicolon; part the fields by one tab each\n",
         ),

@@ -10,7 +10,7 @@ case $program in
 *) program=$PWD/$program ;;
 esac
 # A path that has neither `place` nor `rt`
-for tool in cat cmp dirname mktemp mv readlink rm sed wc; do
+for tool in awk cat cmp dirname mktemp mv readlink rm sed wc; do
     ln -s "$(command -v "$tool")" "$desk/tools/$tool"
 done
 
@@ -137,8 +137,9 @@ written() {
 }
 SHEET=$PWD/$made/example.sheet
 PROGRAM=$program
+MV=$(command -v mv)
 EDGE=$PWD/$made/edge.so
-export SHEET PROGRAM EDGE FAILS BYTES
+export SHEET PROGRAM MV EDGE FAILS BYTES
 written edge <<'END'
 #!/bin/sh
 LD_PRELOAD=$EDGE WRITE_FAILS_AFTER=$FAILS exec "$PROGRAM"
@@ -209,6 +210,19 @@ last=
 with=$desk/bin/ends-its-caller
 fresh "$made/example.list"
 files 'a signal' 1 level.list
+# The same from the `mv` that puts the sheet in its place: then it is filed, and said to be.
+mkdir "$desk/moving"
+written ../moving/mv <<'END'
+#!/bin/sh
+"$MV" "$@"
+kill -TERM $PPID
+END
+with=$program
+accepted level.list level.sheet
+path=$PATH
+PATH=$desk/moving:$PATH
+files 'a signal when the sheet is in its place' 0 level.list
+PATH=$path
 with=$desk/bin/nothing
 fresh "$made/example.list"
 complains "there is no program $with"
@@ -355,10 +369,12 @@ a letter outside A to Z|refused 2|\303\244\t1\t1\n|\303\244\t1\t1\n
 two fields|refused 1|A;1\n|A\t1\n
 a fourth field|refused 1|A\t1\t1\tlift\n|A\t1\t1\tlift\n
 a quotation mark on one side|refused 2|"A\t1\t1\n|"A\t1\t1\n
+quotation marks twice|refused 2|""A""\t1\t1\n|""A""\t1\t1\n
 two names that differ in case|refused 4|a\t1\t1\nA\t2\t2\n|A\t1\t1\nA\t2\t2\n
 a heading row under a site|refused 3|A\t1\t1\nName\tx\ty\n|A\t1\t1\nNAME\tx\ty\n
 two heading rows|refused 3|Name\tx\ty\nBay\tcm\tcm\nA\t1\t1\n|NAME\tx\ty\nBAY\tcm\tcm\nA\t1\t1\n
 a site whose numbers are to come|refused 3|A-01\tx\ty\nB\t1\t1\n|A-01\tx\ty\nB\t1\t1\n
+a word and a blank|refused 3|LIFT\tnorth\t\nB\t1\t1\n|LIFT\tnorth\t\nB\t1\t1\n
 a zero byte|refused 2|a\0\t1\t1\r\n|a\0\t1\t1\r\n
 UTF-16 of other letters|refused 2|\377\376\344\0\t\0001\0\t\0001\0\n\0|\377\376\344\0\t\0001\0\t\0001\0\n\0
 UTF-16 whose zero bytes part no ASCII|refused 1|\377\376\0a\t\0001\0\n\0|\377\376\0a\t\0001\0\n\0

@@ -1,5 +1,9 @@
 /* Square labels for the spots of a car park level: from the bytes of a list to the bytes of its sheet in one call.
-   Link target/staticlib/libsheet_call.a, which `rt staticlib sheet_call` writes. The contract is proved in crates/sheet_call. */
+   Link target/staticlib/libsheet_call.a, which `rt staticlib sheet_call` writes. The contract is proved in crates/sheet_call.
+
+   Platform: Linux on x86-64 (x86_64-unknown-linux-gnu, the System V calling convention), for programs in C, C++ or Rust.
+   Threads: any number of threads may call at the same time. The library holds no bytes that can be written, so that a call depends on
+   its arguments alone; several calls may read one list, and each needs a buffer of its own. */
 #ifndef LEMONCANYON_H
 #define LEMONCANYON_H
 

@@ -1,0 +1,58 @@
+/* A list on standard input, and in the file that the first word names what `place` writes for it: makes the call in several threads at
+   once, each with a buffer of its own, over the same list. The exit status is 0 where every call gave that sheet or that refusal. */
+#include <pthread.h>
+#include <stdio.h>
+#include <stdlib.h>
+#include <string.h>
+
+#include "lemoncanyon.h"
+
+#define ROOM 65536
+#define THREADS 4
+#define CALLS 20
+
+static uint8_t list[ROOM], output[ROOM];
+static size_t list_length, output_length;
+
+/* What `lemoncanyon_sheet` should hand back. */
+static size_t should(void) {
+    return memcmp(output, "refused\t", 8) == 0 ? strtoul((char *)output + 8, 0, 10) : output_length;
+}
+
+/* Null where every call was right. */
+static void *calls(void *wrong) {
+    uint8_t buffer[LEMONCANYON_LONGEST];
+    for (int i = 0; i < CALLS; i++) {
+        memset(buffer, i, sizeof buffer);
+        size_t came = lemoncanyon_sheet(list, list_length, buffer, sizeof buffer);
+        if (came != should() || (came >= LEMONCANYON_SHORTEST && memcmp(buffer, output, came) != 0))
+            return wrong;
+    }
+    return 0;
+}
+
+int main(int count, char **words) {
+    FILE *file = count == 2 ? fopen(words[1], "rb") : 0;
+    if (!file) {
+        puts("usage: threads OUTPUT-OF-PLACE < LIST");
+        return 2;
+    }
+    list_length = fread(list, 1, ROOM, stdin);
+    output_length = fread(output, 1, ROOM, file);
+
+    pthread_t threads[THREADS];
+    int wrong = 0;
+    for (int i = 0; i < THREADS; i++)
+        if (pthread_create(&threads[i], 0, calls, threads) != 0) {
+            puts("no thread");
+            return 2;
+        }
+    for (int i = 0; i < THREADS; i++) {
+        void *told;
+        pthread_join(threads[i], &told);
+        wrong |= told != 0;
+    }
+    if (wrong)
+        puts("a thread came to something else");
+    return wrong;
+}

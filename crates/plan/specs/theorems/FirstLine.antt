@@ -64,6 +64,12 @@ lineCount end = 0
 lineCount (refused-line first is) = 0
 lineCount (accepted-line first is further) = suc (lineCount further)
 
+-- What is left of the text behind them.
+restBehind : {sites : List Site} {text : List ℕ} {result : Result (List Site)} → Reads sites text result → List ℕ
+restBehind end = []
+restBehind {text} (refused-line first is) = text
+restBehind (accepted-line first is further) = restBehind further
+
 -- The first line of a text that starts with the line of a site is that line.
 site-first : {text : List ℕ} {line : TextLine} {site : Site} {rest : List ℕ} → ByRules site → FirstLine text line
     → text ≡ listLine site ++ (lineFeed ∷ rest) → line ≡ record { bytes = listLine site; ended = true; rest = rest }
@@ -75,14 +81,14 @@ apart : (sites : List Site) {next : List Site} {one other : TextLine} {why : Ref
     → lineEntered sites other ≡ refused why → ⊥
 apart sites same passes refuses = refused-not-accepted (sym refuses ∙ sym (ap (lineEntered sites) same) ∙ passes)
 
--- They are as many as stand before a line that is refused, where those before it are by the rules.
+-- They are as many as stand before a line that is refused, where those before it are by the rules, and that line starts what is left.
 accepted-before : {sites : List Site} {text : List ℕ} {result : Result (List Site)} (reads : Reads sites text result) (added : List Site)
     {rest : List ℕ} {line : TextLine} {why : Refusal} → text ≡ listText added ++ rest → Listed (sites ++ added) → FirstLine rest line
-    → lineEntered (sites ++ added) line ≡ refused why → length added ≡ lineCount reads
-unfolding lineCount listText
+    → lineEntered (sites ++ added) line ≡ refused why → (length added ≡ lineCount reads) × (rest ≡ restBehind reads)
+unfolding lineCount restBehind listText
 accepted-before end added {rest} parts listed stop refuses =
     absurd (omega (arith, rest-shorter stop, ap length parts, length-append (listText added) rest))
-accepted-before (refused-line first is) [] parts listed stop refuses = refl
+accepted-before (refused-line first is) [] parts listed stop refuses = (refl, sym parts)
 accepted-before {sites} (refused-line first is) (site ∷ added) {rest} parts listed stop refuses =
     let rules = listed-site sites site added listed in
     let same = site-first rules first (parts ∙ append-assoc (listLine site) (lineFeed ∷ listText added) rest) in
@@ -97,20 +103,30 @@ accepted-before {sites} (accepted-line {next} first is further) (site ∷ added)
     let both : accepted next ≡ accepted (sites ++ (site ∷ [])) = sym is ∙ ap (lineEntered sites) same ∙ passes in
     let this : next ≡ sites ++ (site ∷ []) = cc in
     let sites-are : next ++ added ≡ sites ++ (site ∷ added) = ap (λ (s : List Site). s ++ added) this ∙ append-snoc sites site added in
-    ap suc
-    (accepted-before further added {rest = rest} {line = line} {why = why} (ap (λ (l : TextLine). l .rest) same) (rw sites-are listed) stop
-    (rw sites-are refuses))
+    let behind =
+    accepted-before further added {rest = rest} {line = line} {why = why} (ap (λ (l : TextLine). l .rest) same) (rw sites-are listed) stop
+    (rw sites-are refuses)
+    in
+    (ap suc (behind .0), behind .1)
 
--- So no text has two first refused lines, nor one line with two numbers.
-pub first-refused-one : {text : List ℕ} {n m : ℕ} (f : FirstRefused text n) (g : FirstRefused text m) → (f .line-number ≡ g .line-number) × (n ≡ m)
+-- So no text has two first refused lines, nor one line with two numbers, nor does it start at two places.
+pub first-refused-one : {text : List ℕ} {n m : ℕ} (f : FirstRefused text n) (g : FirstRefused text m)
+    → (f .line-number ≡ g .line-number) × (n ≡ m) × (f .rest ≡ g .rest)
 first-refused-one {text} f g =
     let why-f = refused-why f in
     let why-g = refused-why g in
     let both : refused (why-f .0) ≡ refused (why-g .0) = sym (refused-read f) ∙ refused-read g in
     let same : why-f .0 ≡ why-g .0 = cc in
-    let count-f = accepted-before (reads-list text) (f .before) (f .parts) (before-listed f) (f .line-is) (why-f .1) in
-    let count-g = accepted-before (reads-list text) (g .before) (g .parts) (before-listed g) (g .line-is) (why-g .1) in
-    (omega (arith, f .line-number-is, g .line-number-is), why-f .2 ∙ ap numberOf same ∙ sym (why-g .2))
+    let place-f = accepted-before (reads-list text) (f .before) (f .parts) (before-listed f) (f .line-is) (why-f .1) in
+    let place-g = accepted-before (reads-list text) (g .before) (g .parts) (before-listed g) (g .line-is) (why-g .1) in (
+      omega (arith, f .line-number-is, g .line-number-is, place-f .0, place-g .0),
+      why-f .2 ∙ ap numberOf same ∙ sym (why-g .2),
+      place-f .1 ∙ sym (place-g .1),
+    )
+
+-- They are one line, byte for byte.
+pub first-refused-line : {text : List ℕ} {n m : ℕ} (f : FirstRefused text n) (g : FirstRefused text m) → f .line ≡ g .line
+first-refused-line f g = sym (first-line-cut (f .line-is)) ∙ ap cutLine (first-refused-one f g .2) ∙ first-line-cut (g .line-is)
 
 -- ---- where reading stops
 
@@ -120,12 +136,16 @@ stop-inside {text} {stop} stops =
     let some-byte = rest-shorter (stops .first .line-is) in
     omega (arith, some-byte, ap length (stops .starts), length-drop (stop .at) text)
 
--- The line and its number are told in one way.
+-- The line is told in one way: its number, its refusal's and where it starts.
 pub stop-one : {text : List ℕ} {one other : RefusedLine} → StopTold text (AtLine one) → StopTold text (AtLine other)
-    → (one .number ≡ other .number) × (numberOf (one .why) ≡ numberOf (other .why))
-stop-one (at-a-line one) (at-a-line other) =
-    let both = first-refused-one (one .first) (other .first) in
-    (one .number-is ∙ both .0 ∙ sym (other .number-is), both .1)
+    → (one .number ≡ other .number) × (numberOf (one .why) ≡ numberOf (other .why)) × (one .at ≡ other .at)
+stop-one {text} {one} {other} (at-a-line first) (at-a-line second) =
+    let (line-same, number-same, rest-same) = first-refused-one (first .first) (second .first) in
+    let onward = ap length (first .starts ∙ rest-same ∙ sym (second .starts)) in (
+      first .number-is ∙ line-same ∙ sym (second .number-is),
+      number-same,
+      omega (arith, onward, length-drop (one .at) text, length-drop (other .at) text, stop-inside first, stop-inside second),
+    )
 
 -- Where it stops at a line, not every line is accepted.
 pub stop-or-nowhere : {text : List ℕ} {stop : RefusedLine} → StopTold text (AtLine stop) → StopTold text Nowhere → ⊥

@@ -222,6 +222,15 @@ accepted level.list level.sheet
 path=$PATH
 PATH=$desk/moving:$PATH
 files 'a signal when the sheet is in its place' 0 level.list
+mkdir "$desk/not-moving"
+written ../not-moving/mv <<'END'
+#!/bin/sh
+exit 1
+END
+fresh "$made/example.list"
+complains 'level.sheet cannot be written'
+PATH=$desk/not-moving:$path
+files 'a sheet that cannot be put in its place' 1 level.list
 PATH=$path
 with=$desk/bin/nothing
 fresh "$made/example.list"
@@ -388,17 +397,19 @@ printf 'Name;x;y\nA;1;1\n' | clean 2>"$made/err" >"$made/out"
 printf 'clean-list: left out as a heading row: NAME\tx\ty\n' >"$made/should"
 verdict 'clean-list says which row it left out' "$(difference 'standard error' "$made/err" "$made/should")"
 
-# cleans_not WHAT STATUS WORDS..: that status, no list, and words on standard error
-cleans_not() {
-    what=$1 should=$2
-    shift 2
-    clean "$@" >"$made/out" 2>"$made/err"
-    verdict "clean-list, $what" "$(status $? "$should")$(difference 'standard output' "$made/out" "$made/nothing")$(
-        [ -s "$made/err" ] || echo 'it says nothing'
-    )"
-}
-cleans_not 'an argument' 2 "$made/example.list" <"$made/example.list"
-cleans_not 'a directory as input' 1 </
+clean "$made/example.list" <"$made/example.list" >"$made/out" 2>"$made/err"
+came=$?
+echo 'usage: clean-list <SAVED >LIST' >"$made/should"
+verdict 'clean-list, an argument' "$(
+    status "$came" 2
+    difference 'standard output' "$made/out" "$made/nothing"
+    difference 'standard error' "$made/err" "$made/should"
+)"
+# What is said then is what `cat` says.
+clean </ >"$made/out" 2>"$made/err"
+verdict 'clean-list, a directory as input' "$(status $? 1)$(difference 'standard output' "$made/out" "$made/nothing")$(
+    [ -s "$made/err" ] || echo 'it says nothing'
+)"
 if [ -c /dev/full ]; then
     clean <tests/longest.list >/dev/full 2>"$made/err"
     verdict 'clean-list, a full device as output' "$([ $? -ne 0 ] || echo 'came status 0')"

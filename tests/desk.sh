@@ -393,9 +393,12 @@ for list in examples/*.list tests/*.list; do
     clean <"$list" >"$made/out" 2>"$made/err"
     judge "clean-list, $list is by the rules" "$list" "$made/nothing"
 done
-printf 'Name;x;y\nA;1;1\n' | clean 2>"$made/err" >"$made/out"
-printf 'clean-list: left out as a heading row: NAME\tx\ty\n' >"$made/should"
-verdict 'clean-list says which row it left out' "$(difference 'standard error' "$made/err" "$made/should")"
+clean <examples/saved.csv >"$made/out" 2>"$made/err"
+printf 'A-01\t265\t1060\nA-02\t505\t1060\nA-03\t790\t1060\nB-01\t835\t2590\nB-02\t1075\t2590\n' >"$made/should"
+printf 'clean-list: left out as a heading row: BAY\tx\ty\n' >"$made/told"
+judge 'clean-list, examples/saved.csv; it says which row it left out' "$made/should" "$made/told"
+{ printf 'side\t285\n'; printf '%s\n' 2 1 1 2 1 | paste "$made/should" -; } >"$desk/saved.sheet"
+gives "the sheet of examples/saved.csv" "$made/should" "$desk/saved.sheet"
 
 clean "$made/example.list" <"$made/example.list" >"$made/out" 2>"$made/err"
 came=$?

@@ -8,12 +8,12 @@ use Rattle.plan.specs.rules.Refusal.{numberOf, accepted}
 use Rattle.plan.specs.rules.List.{Site, Reads}
 use Rattle.plan.specs.Demands.{FirstRefused}
 use Rattle.hints.specs.declared.Explanation.{Explanation}
-use Rattle.hints.specs.declared.Explanation.the-variants.{AtLine, NoLine}
+use Rattle.hints.specs.declared.Explanation.the-variants.{Line, NoLine}
 use Rattle.hints.specs.declared.Hint.{Hint}
 use Rattle.hints.specs.Hint.{hintOf}
 
 -- The first refused line is the one that the contract of reading names.
 pub data Explained (text : List ℕ) : Explanation → Type 0 where
-  at-line : {number : ℕ} {why : Refusal} {hint : Hint} (first : FirstRefused text (numberOf why)) → number ≡ first .line-number
-      → hint ≡ hintOf number (first .line) → Explained text (AtLine number why hint)
-  no-line : {sites : List Site} → Reads [] text (accepted sites) → Explained text NoLine
+  by-line : {number : ℕ} {why : Refusal} {hint : Hint} (first : FirstRefused text (numberOf why)) → number ≡ first .line-number
+      → hint ≡ hintOf number (first .line) → Explained text (Line number why hint)
+  by-none : {sites : List Site} → Reads [] text (accepted sites) → Explained text NoLine

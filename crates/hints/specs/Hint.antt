@@ -6,10 +6,10 @@ use Prim.Native.Nat.{ℕ}
 use lib.Dec.{eqb, leb}
 use lib.ListN.{length}
 use Rattle.plan.specs.rules.Text.{tab}
-use Rattle.plan.specs.rules.List.{among, TextLine}
+use Rattle.plan.specs.rules.List.{mostLineBytes, among, TextLine}
 use Rattle.hints.specs.declared.Hint.{Hint}
-use Rattle.hints.specs.declared.Hint.the-variants.{ByteOrderMark, Empty, CarriageReturn, NoLineFeed, Heading}
-use Rattle.hints.specs.declared.Hint.the-variants.{EndTab, Separator, LowerCase, Point, NoHint}
+use Rattle.hints.specs.declared.Hint.the-variants.{ByteOrderMark, Empty, CarriageReturn, NoLineFeed, LongLine}
+use Rattle.hints.specs.declared.Hint.the-variants.{Heading, EndTab, Separator, LowerCase, Point, NoHint}
 
 -- ---- what is looked for in the bytes of a line
 
@@ -42,6 +42,11 @@ unfoldable pub startsWithMark : List ℕ → Bool
 startsWithMark bytes =
     startsWith (239 ∷ 187 ∷ 191 ∷ []) bytes || (startsWith (255 ∷ 254 ∷ []) bytes || startsWith (254 ∷ 255 ∷ []) bytes)
 
+-- A line lacks its line feed, and not because it is long: where a text of 5,061 bytes or more is cut there, more than 20 bytes of the first
+-- refused line are left.
+unfoldable pub lacksFeed : List ℕ → Bool → Bool
+lacksFeed bytes ended = not ended && leb (length bytes) mostLineBytes
+
 -- A heading row has no digit, and is line number 1 of its list.
 unfoldable pub looksHeading : ℕ → List ℕ → Bool
 looksHeading number bytes = eqb number 1 && not (has 48 57 bytes)
@@ -62,13 +67,15 @@ abbrev pub firstHint : List HintTest → Hint
 firstHint [] = NoHint
 firstHint (test ∷ tests) = elim (test .holds) [ true ↦ test .hint | false ↦ firstHint tests ]
 
--- The tests of a line and of its number in the list, from 1. A carriage return is byte 13, a to z are 97 to 122, a point is 46.
+-- The tests of a line and of its number in the list, from 1. A carriage return is byte 13, a to z are 97 to 122, a point is 46. From the
+-- sixth row on the line is whole.
 abbrev pub hintTests : ℕ → TextLine → List HintTest
 hintTests number line =
     startsWithMark (line .bytes) gives ByteOrderMark
     ∷ eqb (length (line .bytes)) 0 gives Empty
-    ∷ endsIn 13 (line .bytes) gives CarriageReturn
-    ∷ not (line .ended) gives NoLineFeed
+    ∷ has 13 13 (line .bytes) gives CarriageReturn
+    ∷ lacksFeed (line .bytes) (line .ended) gives NoLineFeed
+    ∷ not (line .ended) gives LongLine
     ∷ looksHeading number (line .bytes) gives Heading
     ∷ endsIn tab (line .bytes) gives EndTab
     ∷ hasSeparator (line .bytes) gives Separator

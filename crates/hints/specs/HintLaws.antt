@@ -1,4 +1,5 @@
--- No hint misleads: a line that is accepted has none, so a line with a hint is refused whatever the sites before it are.
+-- Every hint names something for which a line is refused: a line that is accepted has none, so that one with a hint is refused whatever
+-- the sites before it are.
 -- Assumes nothing.
 use mathlib.Core.Path.{_≡_, refl, sym, ap, _∙_, subst}
 use mathlib.Core.Bool.{Bool, true, false, _&&_, _||_, false≢true, and-false, or-true}
@@ -21,7 +22,7 @@ use Rattle.plan.specs.theorems.Tables.{rest-none, unless-accepted}
 use Rattle.plan.specs.theorems.Entering.{Passed, tests-passed}
 use Rattle.plan.specs.theorems.Reading.{entered-line}
 use Rattle.hints.specs.declared.Hint.the-variants.{NoHint}
-use Rattle.hints.specs.Hint.{within, has, hasSeparator, endsIn, startsWith, startsWithMark, looksHeading, hintOf}
+use Rattle.hints.specs.Hint.{within, has, hasSeparator, endsIn, startsWith, startsWithMark, lacksFeed, looksHeading, hintOf}
 use Rattle.hints.specs.TestLaws.{ends-behind}
 
 -- ---- the bytes of an accepted line
@@ -196,11 +197,12 @@ module _ {bytes : List ℕ} (of : LineBytes bytes) where
   no-separator = rw (has-not 32 refl bytes (of .all), has-not 44 refl bytes (of .all), has-not 59 refl bytes (of .all))
 
 bytes-no-hint : (number : ℕ) (line : TextLine) → LineBytes (line .bytes) → line .ended ≡ true → hintOf number line ≡ NoHint
+unfolding lacksFeed
 bytes-no-hint number line of ended =
     rw (
       no-mark of,
       some-byte of,
-      last-digit of 13 (omega arith),
+      has-not 13 refl (line .bytes) (of .all),
       ended,
       no-heading of number,
       last-digit of tab (omega arith),

@@ -1,4 +1,5 @@
-// For a refused line of a list: the common cause that shows in its bytes.
+// Where and why a list is refused: the line, the refusal, and a hint where a common cause shows in the bytes of that line.
+use plan::limits::TextLimits;
 use plan::list::Stop;
 use plan::list::refused_line;
 use plan::refusal::Refusal;
@@ -6,7 +7,7 @@ ghost use mathlib.Core.Path.{_≡_};
 ghost use lib.ListN.{length};
 ghost use Rattle.plan.specs.deciding.Reading.{cutLine};
 ghost use Rattle.hints.specs.Explained.{Explained};
-ghost use Rattle.hints.specs.Hint.{within, has, hasSeparator, endsIn, startsWith, startsWithMark, looksHeading, lineOf, hintOf};
+ghost use Rattle.hints.specs.Hint.{within, has, hasSeparator, endsIn, startsWith, startsWithMark, lacksFeed, looksHeading, lineOf, hintOf};
 
 // The causes, in the order in which they are looked for; the last says that none shows.
 pub enum Hint {
@@ -14,6 +15,7 @@ pub enum Hint {
     Empty,
     CarriageReturn,
     NoLineFeed,
+    LongLine,
     Heading,
     EndTab,
     Separator,
@@ -24,7 +26,7 @@ pub enum Hint {
 
 // Where and why a list is refused: at a line, counted from 1, by which rule and with which hint; or at no line, since each is accepted.
 pub enum Explanation {
-    AtLine(usize, Refusal, Hint),
+    Line(usize, Refusal, Hint),
     NoLine,
 }
 
@@ -117,6 +119,16 @@ fn starts_with_mark(bytes: &[u8]) -> bool
     starts_with(bytes, b"\xFE\xFF")
 }
 
+// Whether a line lacks its line feed, and not because it is long.
+fn lacks_feed(bytes: &[u8], ended: bool) -> bool
+    ensures { λ r. ⌜ r ≡ lacksFeed (now (bytes .entry)) ended ⌝ }
+{
+    if ended {
+        return false;
+    }
+    bytes.len() <= TextLimits::LINE
+}
+
 // Whether a line looks like a heading row: the first line, with no digit.
 fn looks_heading(line: usize, bytes: &[u8]) -> bool
     ensures { λ r. ⌜ r ≡ looksHeading line (now (bytes .entry)) ⌝ }
@@ -137,11 +149,14 @@ fn hint_of(line: usize, bytes: &[u8], ended: bool) -> Hint
     if bytes.len() == 0 {
         return Hint::Empty;
     }
-    if ends_in(bytes, b'\r') {
+    if has_byte(bytes, b'\r', b'\r') {
         return Hint::CarriageReturn;
     }
-    if !ended {
+    if lacks_feed(bytes, ended) {
         return Hint::NoLineFeed;
+    }
+    if !ended {
+        return Hint::LongLine;
     }
     if looks_heading(line, bytes) {
         return Hint::Heading;
@@ -180,5 +195,5 @@ pub fn explain(text: &[u8]) -> Explanation
     let number = line.number;
     let at = line.at;
     let why = line.why;
-    Explanation::AtLine(number, why, hint_for(number, &text[at..]))
+    Explanation::Line(number, why, hint_for(number, &text[at..]))
 }

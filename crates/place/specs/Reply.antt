@@ -44,15 +44,15 @@ Replied start room (Output reading n) buffer = Whole start room reading n buffer
 Replied start room (Unread reading) buffer = CutShort start room reading
 
 -- The list is refused, with some number.
-abbrev pub ListIsRefused : List ℕ → Type 0
-ListIsRefused text = (number : ℕ) × ListRefused text number
+abbrev pub IsRefused : List ℕ → Type 0
+IsRefused text = (number : ℕ) × ListRefused text number
 
 -- The bytes read lie within the room, and what is to be written within the buffer. Where that starts with the letter r, of the word
 -- refused, the list is.
 pub record Ready (room : List ℕ) (reading : Reading) (n : ℕ) (buffer : List ℕ) : Type 0 where
   pub read-within : reading .at ≤ length room
   pub output-within : n ≤ length buffer
-  pub is-refused : getD buffer 0 0 ≡ 114 → ListIsRefused (take (reading .at) room)
+  pub is-refused : getD buffer 0 0 ≡ 114 → IsRefused (take (reading .at) room)
 
 -- An answer that can be written.
 abbrev pub Writable : Answer → (room buffer : List ℕ) → Type 0

@@ -1,4 +1,4 @@
--- The output for the bytes read is the output for the whole input, and the program's answer is within its buffer.
+-- The output for the bytes read is the output for the whole input, and the program's answer can be written.
 -- Assumes nothing.
 use mathlib.Core.Path.{_≡_, refl, sym, ap, _∙_, subst}
 use mathlib.Core.List.{List, [], _∷_}
@@ -15,7 +15,7 @@ use Rattle.plan.specs.theorems.Longer.{output-first}
 use Rattle.plan.specs.theorems.Output.{output-answered, output-within}
 use Rattle.place.specs.declared.answer.Answer.{Answer}
 use Rattle.place.specs.declared.answer.Answer.the-variants.{Output, Unread}
-use Rattle.place.specs.Reply.{OutputFor, Replied, ListIsRefused, Writable}
+use Rattle.place.specs.Reply.{OutputFor, Replied, IsRefused, Writable}
 
 -- What `output` leaves for the bytes read is the output for every input that starts with them.
 pub output-for : {n : ℕ} {after : List ℕ} (read buffer : List ℕ) → n ≡ length (outputOf read) → after ≡ filledWith (outputOf read) buffer
@@ -39,7 +39,7 @@ first-byte (suc n) b (c ∷ buffer) rest is = cc
 
 -- A sheet starts with the letter s, of the word side; so what starts with another is the line of a refusal.
 letter-refuses : {text output : List ℕ} (n : ℕ) (buffer : List ℕ) → output ≡ take n buffer → Answered text output → getD buffer 0 0 ≡ 114
-    → ListIsRefused text
+    → IsRefused text
 unfolding sheetWith
 letter-refuses n buffer is (refusal-line {number} refused line) letter = (number, refused)
 letter-refuses n buffer is (list-sheet for) letter =

@@ -5,9 +5,9 @@ use hints::Hint;
 use hints::explain;
 use libc::STDERR_FILENO;
 use plan::refusal::Refusal;
-ghost use Rattle.place.specs.Reply.{ListIsRefused};
+ghost use Rattle.place.specs.Reply.{IsRefused};
 
-// The rule in words; no line is refused for any but these.
+// The rule in words. The table of a line (`lineTests`) has no refusals but these six.
 fn tell_rule(why: Refusal) {
     match why {
         Refusal::BadLine => tell(
@@ -17,6 +17,7 @@ fn tell_rule(why: Refusal) {
         Refusal::BadCoordinate => tell(b"a coordinate outside the rule\n"),
         Refusal::NameTaken => tell(b"a name already in the plan\n"),
         Refusal::PlaceTaken => tell(b"a place already in the plan\n"),
+        // Refusal::Full
         _ => tell(b"a site where 240 stand\n"),
     }
 }
@@ -29,30 +30,35 @@ fn tell_hint(hint: Hint) {
         ),
         Hint::Empty => tell(b"place: hint: it is empty; leave no empty lines\n"),
         Hint::CarriageReturn => tell(
-            b"place: hint: it ends in a carriage return; end each line with a line feed alone\n",
+            b"place: hint: it has a carriage return; end each line with a line feed alone\n",
         ),
         Hint::NoLineFeed => tell(
             b"place: hint: it has no line feed at its end; the last line needs one too\n",
         ),
-        Hint::Heading => tell(b"place: hint: it looks like a heading row; leave that out\n"),
+        Hint::LongLine => tell(
+            b"place: hint: it is over 20 bytes long; a line has a name, x and y alone\n",
+        ),
+        Hint::Heading => tell(
+            b"place: hint: it has no digit; if it is a heading row, leave it out\n",
+        ),
         Hint::EndTab => tell(b"place: hint: it ends in a tab with nothing behind it\n"),
         Hint::Separator => tell(
-            b"place: hint: it has a space, a comma or a semicolon; part the fields by one tab each\n",
+            b"place: hint: it has a space, a comma or a semicolon; a list has one tab between two fields and none of these\n",
         ),
         Hint::LowerCase => tell(
-            b"place: hint: it has lower-case letters; a name has A to Z, 0 to 9 and hyphen\n",
+            b"place: hint: it has lower-case letters; a list has A to Z, 0 to 9 and hyphen alone\n",
         ),
-        Hint::Point => tell(b"place: hint: it has a point; a coordinate is in whole units\n"),
+        Hint::Point => tell(b"place: hint: it has a point; names and coordinates have none\n"),
         Hint::NoHint => {}
     }
 }
 
 // Why this list is refused: at its first refused line, or since it has no sites.
 pub(crate) fn tell_refused(text: &[u8])
-    requires { ⌜ ListIsRefused (now text) ⌝ }
+    requires { ⌜ IsRefused (now text) ⌝ }
 {
     let explained = explain(text);
-    let Explanation::AtLine(number, why, hint) = explained else {
+    let Explanation::Line(number, why, hint) = explained else {
         tell(b"place: a list of no sites\n");
         return;
     };

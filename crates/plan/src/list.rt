@@ -18,7 +18,7 @@ ghost use Rattle.plan.specs.calls.Plan.{unplacedPlan, sitesIn, Valid};
 ghost use Rattle.plan.specs.calls.Answers.{handed, readFrom};
 ghost use Rattle.plan.specs.Demands.{ReadTold, StopTold};
 ghost use Rattle.plan.specs.code.Line.{LineEnds, LineReads, FieldEnd, enteredFields};
-ghost use Rattle.plan.specs.code.Reading.{LinesRead};
+ghost use Rattle.plan.specs.code.Reading.{LinesReads};
 
 // Where a line ends: the place of its line feed, if it has one in time.
 pub(crate) enum LineEnd {
@@ -27,11 +27,18 @@ pub(crate) enum LineEnd {
 }
 
 // What reading a line hands back: the answer, the plan afterwards, and where the next line starts, or this one where it has no end.
-// Reading all lines hands back the same of the last one, with the plan before a refused line and where that starts.
 pub(crate) struct LineRead {
     pub outcome: Outcome,
     pub plan: Plan,
     pub next: usize,
+}
+
+// What reading line after line hands back: the answer of the last one, the plan of those accepted, and where a refused line starts, else
+// the text's end.
+pub(crate) struct LinesRead {
+    pub outcome: Outcome,
+    pub plan: Plan,
+    pub at: usize,
 }
 
 // The line at which reading a list stops: its number, counted from 1, where it starts, and why it is refused.
@@ -137,8 +144,8 @@ fn read_line(plan: Plan, text: &[u8], at: usize) -> LineRead
 }
 
 // Reads line after line into a fresh plan, up to the first refused line or the text's end.
-fn read_lines(text: &[u8]) -> LineRead
-    ensures { λ r. ⌜ LinesRead (now (text .entry)) r ⌝ }
+fn read_lines(text: &[u8]) -> LinesRead
+    ensures { λ r. ⌜ LinesReads (now (text .entry)) r ⌝ }
 {
     let mut plan = Plan::start();
     let mut at = 0;
@@ -146,20 +153,20 @@ fn read_lines(text: &[u8]) -> LineRead
         let line = read_line(plan, text, at);
         let outcome = line.outcome;
         if let Outcome::Refused(why) = outcome {
-            return LineRead {
+            return LinesRead {
                 outcome: Outcome::Refused(why),
                 plan,
-                next: at,
+                at,
             };
         }
         let more = line.plan;
         plan = more;
         at = line.next;
     }
-    LineRead {
+    LinesRead {
         outcome: Outcome::Done,
         plan,
-        next: at,
+        at,
     }
 }
 
@@ -193,7 +200,7 @@ pub fn refused_line(text: &[u8]) -> Stop
     let before = lines.plan;
     Stop::AtLine(RefusedLine {
         number: before.count + 1,
-        at: lines.next,
+        at: lines.at,
         why,
     })
 }

@@ -38,74 +38,74 @@ tests2 c = tests1 (c .before)
 failed2 : (c : tie.Else2) → Failed 2 (tests2 c)
 failed2 c = row-fails (failed1 (c .before)) (omega arith) (ne-eqb _ 0 (c .if2 .left))
 
-ends-in-requires : tie.Need-ends-in-requires
-ends-in-requires c κs = search needs
+has-byte-requires : tie.Need-has-byte-requires
+has-byte-requires c κs = search needs
 
 returns-3 : tie.Need-returns-3
-returns-3 c = row-gives (failed2 (c .before .before)) (omega arith) (sym (c .before .ends-in .ensures) ∙ c .if3 .taken)
+returns-3 c = row-gives (failed2 (c .before .before)) (omega arith) (sym (c .before .has-byte .ensures) ∙ c .if3 .taken)
 
 abbrev tests3 : tie.Else3 → List HintTest
 tests3 c = tests2 (c .before .before)
 
 failed3 : (c : tie.Else3) → Failed 3 (tests3 c)
-failed3 c = row-fails (failed2 (c .before .before)) (omega arith) (sym (c .before .ends-in .ensures) ∙ c .if3 .left)
+failed3 c = row-fails (failed2 (c .before .before)) (omega arith) (sym (c .before .has-byte .ensures) ∙ c .if3 .left)
+
+lacks-feed-requires : tie.Need-lacks-feed-requires
+lacks-feed-requires c κs = search needs
 
 returns-4 : tie.Need-returns-4
-returns-4 c = row-gives (failed3 (c .before)) (omega arith) (c .if4 .taken)
+returns-4 c = row-gives (failed3 (c .before .before)) (omega arith) (sym (c .before .lacks-feed .ensures) ∙ c .if4 .taken)
 
 abbrev tests4 : tie.Else4 → List HintTest
-tests4 c = tests3 (c .before)
+tests4 c = tests3 (c .before .before)
 
 failed4 : (c : tie.Else4) → Failed 4 (tests4 c)
-failed4 c = row-fails (failed3 (c .before)) (omega arith) (c .if4 .left)
+failed4 c = row-fails (failed3 (c .before .before)) (omega arith) (sym (c .before .lacks-feed .ensures) ∙ c .if4 .left)
+
+returns-5 : tie.Need-returns-5
+returns-5 c = row-gives (failed4 (c .before)) (omega arith) (c .if5 .taken)
+
+abbrev tests5 : tie.Else5 → List HintTest
+tests5 c = tests4 (c .before)
+
+failed5 : (c : tie.Else5) → Failed 5 (tests5 c)
+failed5 c = row-fails (failed4 (c .before)) (omega arith) (c .if5 .left)
 
 looks-heading-requires : tie.Need-looks-heading-requires
 looks-heading-requires c κs = search needs
 
-returns-5 : tie.Need-returns-5
-returns-5 c = row-gives (failed4 (c .before .before)) (omega arith) (sym (c .before .looks-heading .ensures) ∙ c .if5 .taken)
-
-abbrev tests5 : tie.Else5 → List HintTest
-tests5 c = tests4 (c .before .before)
-
-failed5 : (c : tie.Else5) → Failed 5 (tests5 c)
-failed5 c = row-fails (failed4 (c .before .before)) (omega arith) (sym (c .before .looks-heading .ensures) ∙ c .if5 .left)
-
-ends-in-requires-2 : tie.Need-ends-in-requires-2
-ends-in-requires-2 c κs = search needs
-
 returns-6 : tie.Need-returns-6
-returns-6 c = row-gives (failed5 (c .before .before)) (omega arith) (sym (c .before .ends-in2 .ensures) ∙ c .if6 .taken)
+returns-6 c = row-gives (failed5 (c .before .before)) (omega arith) (sym (c .before .looks-heading .ensures) ∙ c .if6 .taken)
 
 abbrev tests6 : tie.Else6 → List HintTest
 tests6 c = tests5 (c .before .before)
 
 failed6 : (c : tie.Else6) → Failed 6 (tests6 c)
-failed6 c = row-fails (failed5 (c .before .before)) (omega arith) (sym (c .before .ends-in2 .ensures) ∙ c .if6 .left)
+failed6 c = row-fails (failed5 (c .before .before)) (omega arith) (sym (c .before .looks-heading .ensures) ∙ c .if6 .left)
 
-has-separator-requires : tie.Need-has-separator-requires
-has-separator-requires c κs = search needs
+ends-in-requires : tie.Need-ends-in-requires
+ends-in-requires c κs = search needs
 
 returns-7 : tie.Need-returns-7
-returns-7 c = row-gives (failed6 (c .before .before)) (omega arith) (sym (c .before .has-separator .ensures) ∙ c .if7 .taken)
+returns-7 c = row-gives (failed6 (c .before .before)) (omega arith) (sym (c .before .ends-in .ensures) ∙ c .if7 .taken)
 
 abbrev tests7 : tie.Else7 → List HintTest
 tests7 c = tests6 (c .before .before)
 
 failed7 : (c : tie.Else7) → Failed 7 (tests7 c)
-failed7 c = row-fails (failed6 (c .before .before)) (omega arith) (sym (c .before .has-separator .ensures) ∙ c .if7 .left)
+failed7 c = row-fails (failed6 (c .before .before)) (omega arith) (sym (c .before .ends-in .ensures) ∙ c .if7 .left)
 
-has-byte-requires : tie.Need-has-byte-requires
-has-byte-requires c κs = search needs
+has-separator-requires : tie.Need-has-separator-requires
+has-separator-requires c κs = search needs
 
 returns-8 : tie.Need-returns-8
-returns-8 c = row-gives (failed7 (c .before .before)) (omega arith) (sym (c .before .has-byte .ensures) ∙ c .if8 .taken)
+returns-8 c = row-gives (failed7 (c .before .before)) (omega arith) (sym (c .before .has-separator .ensures) ∙ c .if8 .taken)
 
 abbrev tests8 : tie.Else8 → List HintTest
 tests8 c = tests7 (c .before .before)
 
 failed8 : (c : tie.Else8) → Failed 8 (tests8 c)
-failed8 c = row-fails (failed7 (c .before .before)) (omega arith) (sym (c .before .has-byte .ensures) ∙ c .if8 .left)
+failed8 c = row-fails (failed7 (c .before .before)) (omega arith) (sym (c .before .has-separator .ensures) ∙ c .if8 .left)
 
 has-byte-requires-2 : tie.Need-has-byte-requires-2
 has-byte-requires-2 c κs = search needs
@@ -119,8 +119,20 @@ tests9 c = tests8 (c .before .before)
 failed9 : (c : tie.Else9) → Failed 9 (tests9 c)
 failed9 c = row-fails (failed8 (c .before .before)) (omega arith) (sym (c .before .has-byte2 .ensures) ∙ c .if9 .left)
 
+has-byte-requires-3 : tie.Need-has-byte-requires-3
+has-byte-requires-3 c κs = search needs
+
 returns-10 : tie.Need-returns-10
-returns-10 c = sym (failed9 c .rest-gives)
+returns-10 c = row-gives (failed9 (c .before .before)) (omega arith) (sym (c .before .has-byte3 .ensures) ∙ c .if10 .taken)
+
+abbrev tests10 : tie.Else10 → List HintTest
+tests10 c = tests9 (c .before .before)
+
+failed10 : (c : tie.Else10) → Failed 10 (tests10 c)
+failed10 c = row-fails (failed9 (c .before .before)) (omega arith) (sym (c .before .has-byte3 .ensures) ∙ c .if10 .left)
+
+returns-11 : tie.Need-returns-11
+returns-11 c = sym (failed10 c .rest-gives)
 
 pub hint-of-spec : {M : Type 1} → statement M
 hint-of-spec =
@@ -129,17 +141,19 @@ hint-of-spec =
     starts-with-mark-requires
     returns
     returns-2
-    ends-in-requires
-    returns-3
-    returns-4
-    looks-heading-requires
-    returns-5
-    ends-in-requires-2
-    returns-6
-    has-separator-requires
-    returns-7
     has-byte-requires
+    returns-3
+    lacks-feed-requires
+    returns-4
+    returns-5
+    looks-heading-requires
+    returns-6
+    ends-in-requires
+    returns-7
+    has-separator-requires
     returns-8
     has-byte-requires-2
     returns-9
-    returns-10)
+    has-byte-requires-3
+    returns-10
+    returns-11)

@@ -10,6 +10,7 @@ use lib.ListN.{length, drop, length-drop, drop-of-length-le}
 use Rattle.placing.specs.rules.Units.{mostSites}
 use Rattle.plan.specs.declared.list.LineEnd.the-variants.{Missing}
 use Rattle.plan.specs.declared.list.LineRead.{LineRead}
+use Rattle.plan.specs.declared.list.LinesRead.{LinesRead}
 use Rattle.plan.specs.declared.list.Stop.the-variants.{AtLine, Nowhere}
 use Rattle.plan.specs.declared.refusal.Outcome.the-variants.{Done, Refused}
 use Rattle.plan.specs.declared.refusal.Refusal.{Refusal}
@@ -18,13 +19,15 @@ use Rattle.plan.specs.declared.plan.Plan.{Plan}
 use Rattle.plan.specs.declared.plan.Planned.{Planned}
 use Rattle.plan.specs.rules.Refusal.{Result, accepted, refused}
 use Rattle.plan.specs.rules.Text.{lineFeed, fieldsOf}
-use Rattle.plan.specs.rules.List.{Site, Listed, listText, mostLineBytes, TextLine, FirstLine, lineEntered, Reads, end, refused-line, accepted-line}
+use Rattle.plan.specs.rules.List.{Site, Listed, listText, mostLineBytes, TextLine, FirstLine, lineEntered}
+use Rattle.plan.specs.rules.List.{Reads, end, refused-line, accepted-line}
 use Rattle.plan.specs.deciding.Reading.{cutLine}
 use Rattle.plan.specs.calls.Plan.{unplacedPlan, sitesIn, Valid, is-unplaced}
 use Rattle.plan.specs.calls.Answers.{started, handed, readFrom}
 use Rattle.plan.specs.Demands.{StopTold, at-a-line, at-no-line}
 use Rattle.plan.specs.theorems.Sites.{listed-none}
-use Rattle.plan.specs.theorems.Reading.{cut-first-line, first-line-whole, LineOf, entered-line, list-one-more, first-refused, reads-are}
+use Rattle.plan.specs.theorems.Reading.{cut-first-line, first-line-whole, LineOf, entered-line, list-one-more}
+use Rattle.plan.specs.theorems.Reading.{first-refused, reads-are}
 use Rattle.plan.specs.theorems.Plan.{sites-unplaced}
 use Rattle.plan.specs.code.Line.{between, lineAt, LineAt, LineEnds, enteredFields, LineReads, no-line, a-line}
 use Rattle.plan.specs.code.CallLaws.{refusal-of}
@@ -39,11 +42,15 @@ pub record Reading (text : List ℕ) (plan : Plan) (at : ℕ) : Type 0 where
   pub onward : (result : Result (List Site)) → Reads sites (drop at text) result → Reads [] text result
 
 -- Reading is over: at a line that is refused, or at the text's end.
-pub data LinesRead (text : List ℕ) : LineRead → Type 0 where
+pub data LinesReads (text : List ℕ) : LinesRead → Type 0 where
   stops : {plan : Plan} {at : ℕ} {line : TextLine} {why : Refusal} (so-far : Reading text plan at) → FirstLine (drop at text) line
-      → lineEntered (so-far .sites) line ≡ refused why → LinesRead text (record { outcome = Refused why; plan = plan; next = at })
+      → lineEntered (so-far .sites) line ≡ refused why → LinesReads text (record { outcome = Refused why; plan = plan; at = at })
   ends : {plan : Plan} {at : ℕ} → Reading text plan at → length text ≤ at
-      → LinesRead text (record { outcome = Done; plan = plan; next = at })
+      → LinesReads text (record { outcome = Done; plan = plan; at = at })
+
+-- No answer is both.
+refused-not-done : {why : Refusal} → Refused why ≡ Done → ⊥
+refused-not-done so = let z : _≡_ {A = ℕ} 0 1 = cc in absurd (omega arith)
 
 -- What an answer tells of what a call came to.
 module _ (plan : Plan) {r : Planned} where
@@ -55,7 +62,7 @@ module _ (plan : Plan) {r : Planned} where
   answer-done : (result : Result (List Site)) → r ≡ handed unplacedPlan plan result → r .outcome ≡ Done
       → (next : List Site) × (result ≡ accepted next) × (r .plan ≡ unplacedPlan next)
   answer-done (accepted next) is so = (next, refl, ap (λ (p : Planned). p .plan) is)
-  answer-done (refused other) is so = let z : _≡_ {A = ℕ} 0 1 = cc in absurd (omega arith)
+  answer-done (refused other) is so = absurd (refused-not-done (sym (ap (λ (p : Planned). p .outcome) is) ∙ so))
 
 -- At the start, with the empty plan.
 pub reading-starts : (text : List ℕ) (plan : Plan) → plan ≡ started → Reading text plan 0
@@ -68,13 +75,18 @@ module _ {text : List ℕ} {plan : Plan} {at : ℕ} (so-far : Reading text plan 
   pub reading-valid : Valid plan
   reading-valid = rw (so-far .held) (is-unplaced (so-far .sites) (so-far .listed))
 
+  -- It holds at most 240 sites.
+  reading-few : plan .count ≤ mostSites
+  unfolding unplacedPlan
+  reading-few = omega (arith, so-far .listed .few, ap (λ (p : Plan). p .count) (so-far .held))
+
   -- At the text's end, every line is accepted.
   reading-all : length text ≤ at → Reads [] text (accepted (so-far .sites))
   reading-all past = so-far .onward (accepted (so-far .sites)) (rw (drop-of-length-le text past) end)
 
   -- Before it, without a whole line from there on, reading stops.
   reading-missing : at < length text → LineEnds text at Missing
-      → LinesRead text (record { outcome = Refused BadLine; plan = plan; next = at })
+      → LinesReads text (record { outcome = Refused BadLine; plan = plan; at = at })
   reading-missing further missing =
       let line = cutLine (drop at text) in
       let first = cut-first-line (drop at text) (omega (arith, length-drop at text)) in
@@ -99,7 +111,7 @@ module _ {text : List ℕ} {plan : Plan} {at : ℕ} (so-far : Reading text plan 
 
     -- Refused, reading stops.
     reading-refused : {why : Refusal} → r .outcome ≡ Refused why
-        → LinesRead text (record { outcome = Refused why; plan = plan; next = at })
+        → LinesReads text (record { outcome = Refused why; plan = plan; at = at })
     reading-refused so = stops so-far (found .first) (line-is ∙ answer-refused plan _ is so)
 
     -- Accepted, one line more is read.
@@ -123,39 +135,38 @@ module _ {text : List ℕ} {plan : Plan} {at : ℕ} (so-far : Reading text plan 
 
   -- Where reading a line is refused, reading stops there.
   pub line-stops : {r : LineRead} {why : Refusal} → at < length text → LineReads plan text at r → r .outcome ≡ Refused why
-      → LinesRead text (record { outcome = Refused why; plan = plan; next = at })
+      → LinesReads text (record { outcome = Refused why; plan = plan; at = at })
   line-stops {why = why} further (no-line missing) so =
       let same : BadLine ≡ why = cc in
-      subst (λ (w : Refusal). LinesRead text (record { outcome = Refused w; plan = plan; next = at })) same (reading-missing further missing)
+      subst (λ (w : Refusal). LinesReads text (record { outcome = Refused w; plan = plan; at = at })) same (reading-missing further missing)
   line-stops further (a-line entered found is) so = reading-refused found is so
 
   -- Where it is accepted, one line more is read, and the next one starts further on.
   pub line-on : {r : LineRead} → LineReads plan text at r → r .outcome ≡ Done → Reading text (r .plan) (r .next) × (at < r .next)
-  line-on (no-line missing) so = let z : _≡_ {A = ℕ} 0 1 = cc in absurd (omega arith)
+  line-on (no-line missing) so = absurd (refused-not-done so)
   line-on (a-line entered found is) so = (reading-on found is so, omega (arith, found .after))
 
 -- ---- reading is over
 
 module _ {text : List ℕ} where
   -- Where it stopped at a line, the text is refused, and a refusal hands back an empty plan.
-  pub lines-refused : {r : LineRead} {why : Refusal} {fresh : Plan} {planned : Planned} → LinesRead text r → r .outcome ≡ Refused why
+  pub lines-refused : {r : LinesRead} {why : Refusal} {fresh : Plan} {planned : Planned} → LinesReads text r → r .outcome ≡ Refused why
       → (fresh ≡ started) × Valid fresh → planned ≡ refusal-of fresh why → (planned ≡ readFrom text) × Valid (planned .plan)
   lines-refused {why = why} (stops {why = other} so-far first refuses) so empty is =
       let same : other ≡ why = cc in
       let all = reads-are (so-far .onward (refused other) (refused-line first refuses)) ∙ ap refused same in
       let answer = is ∙ ap (λ (p : Plan). refusal-of p why) (empty .0) in
       (answer ∙ ap (handed unplacedPlan started) (sym all), rw is (empty .1))
-  lines-refused (ends so-far past) so empty is = let z : _≡_ {A = ℕ} 0 1 = cc in absurd (omega arith)
+  lines-refused (ends so-far past) so empty is = absurd (refused-not-done (sym so))
 
   -- The plan holds at most 240 sites.
-  pub lines-few : {r : LineRead} → LinesRead text r → r .plan .count ≤ mostSites
-  unfolding unplacedPlan
-  lines-few (stops so-far first refuses) = omega (arith, so-far .listed .few, ap (λ (p : Plan). p .count) (so-far .held))
-  lines-few (ends so-far past) = omega (arith, so-far .listed .few, ap (λ (p : Plan). p .count) (so-far .held))
+  pub lines-few : {r : LinesRead} → LinesReads text r → r .plan .count ≤ mostSites
+  lines-few (stops so-far first refuses) = reading-few so-far
+  lines-few (ends so-far past) = reading-few so-far
 
   -- That line is the first refused one.
-  pub lines-stop : {r : LineRead} {why : Refusal} → LinesRead text r → r .outcome ≡ Refused why
-      → StopTold text (AtLine (record { number = r .plan .count + 1; at = r .next; why = why }))
+  pub lines-stop : {r : LinesRead} {why : Refusal} → LinesReads text r → r .outcome ≡ Refused why
+      → StopTold text (AtLine (record { number = r .plan .count + 1; at = r .at; why = why }))
   unfolding first-refused unplacedPlan
   lines-stop {why = why} (stops {why = other} so-far first refuses) so =
       let same : other ≡ why = cc in
@@ -164,17 +175,17 @@ module _ {text : List ℕ} where
         number-is = ap (λ (p : Plan). p .count + 1) (so-far .held);
         starts = refl;
       })
-  lines-stop (ends so-far past) so = let z : _≡_ {A = ℕ} 0 1 = cc in absurd (omega arith)
+  lines-stop (ends so-far past) so = absurd (refused-not-done (sym so))
 
   -- Where it stopped nowhere, the whole text is read into the plan.
-  pub lines-done : {r : LineRead} → LinesRead text r → r .outcome ≡ Done → (record { outcome = Done; plan = r .plan } ≡ readFrom text) × Valid (r .plan)
-  lines-done (stops so-far first refuses) so = let z : _≡_ {A = ℕ} 0 1 = cc in absurd (omega arith)
+  pub lines-done : {r : LinesRead} → LinesReads text r → r .outcome ≡ Done → (record { outcome = Done; plan = r .plan } ≡ readFrom text) × Valid (r .plan)
+  lines-done (stops so-far first refuses) so = absurd (refused-not-done so)
   lines-done (ends so-far past) so = (
     ap (λ (p : Plan). record { outcome = Done; plan = p }) (so-far .held)
         ∙ ap (handed unplacedPlan started) (sym (reads-are (reading-all so-far past))),
     reading-valid so-far,
   )
 
-  pub lines-nowhere : {r : LineRead} → LinesRead text r → r .outcome ≡ Done → StopTold text Nowhere
-  lines-nowhere (stops so-far first refuses) so = let z : _≡_ {A = ℕ} 0 1 = cc in absurd (omega arith)
+  pub lines-nowhere : {r : LinesRead} → LinesReads text r → r .outcome ≡ Done → StopTold text Nowhere
+  lines-nowhere (stops so-far first refuses) so = absurd (refused-not-done so)
   lines-nowhere (ends so-far past) so = at-no-line (reading-all so-far past)

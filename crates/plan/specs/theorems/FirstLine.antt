@@ -26,7 +26,7 @@ use Rattle.plan.specs.theorems.Reading.{first-line-cut, rest-shorter, re
 -- ---- its number
 
 -- It is refused, with that number.
-refused-why : {text : List ℕ} {n : ℕ} (f : FirstRefused text n)
+pub refused-why : {text : List ℕ} {n : ℕ} (f : FirstRefused text n)
     → (why : Refusal) × (lineEntered (f .before) (f .line) ≡ refused why) × (n ≡ numberOf why)
 refused-why {n = n} f = by-first (firstRefusal (lineTests (f .before) (f .line))) _ (f .number-is)
   where
@@ -36,7 +36,7 @@ refused-why {n = n} f = by-first (firstRefusal (lineTests (f .before) (f .line))
     by-first (some why) value is = (why, refl, is)
 
 -- The lines before it are by the rules.
-before-listed : {text : List ℕ} {n : ℕ} (f : FirstRefused text n) → Listed (f .before)
+pub before-listed : {text : List ℕ} {n : ℕ} (f : FirstRefused text n) → Listed (f .before)
 before-listed f = read-listed _ (f .before) (reads-are (f .accepted-before))
 
 -- So the text is refused for that.

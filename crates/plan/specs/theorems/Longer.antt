@@ -9,19 +9,22 @@ use native.Mathlib.Decide.{decLe, decLt}
 use native.Mathlib.Omega.{arith}
 use borrow.Author.Tests.{lt-ltb}
 use lib.ListN.{length, take, length-append}
-use lib.Seq.{take-append-add, take-append-le, take-all}
+use lib.Seq.{append-snoc, take-append-add, take-append-le, take-all}
 use Rattle.placing.specs.rules.Units.{mostSites}
 use Rattle.plan.specs.declared.refusal.Refusal.{Refusal}
 use Rattle.plan.specs.declared.refusal.Refusal.the-variants.{BadLine}
 use Rattle.plan.specs.rules.Refusal.{Result, refused}
 use Rattle.plan.specs.rules.Text.{lineFeed, Without}
-use Rattle.plan.specs.rules.List.{Site, mostLineBytes, longestText, lineEntered}
+use Rattle.plan.specs.rules.List.{Site, Listed, listLine, listText, mostLineBytes, longestText, lineEntered}
 use Rattle.plan.specs.rules.List.{TextLine, FirstLine, with-feed, without-feed, Reads, end, refused-line, accepted-line}
 use Rattle.plan.specs.rules.Calls.{toPlace}
 use Rattle.plan.specs.deciding.Output.{outputFor, outputOf}
 use Rattle.plan.specs.deciding.Reading.{readList}
+use Rattle.plan.specs.Demands.{FirstRefused}
 use Rattle.plan.specs.theorems.Tables.{refused-not-accepted}
-use Rattle.plan.specs.theorems.Reading.{entered-line, reads-list, reads-are}
+use Rattle.plan.specs.theorems.Sites.{listed-site}
+use Rattle.plan.specs.theorems.Reading.{line-short, entered-line, reads-list, reads-are, first-refused}
+use Rattle.plan.specs.theorems.FirstLine.{refused-why, before-listed, first-refused-one}
 
 -- Bytes without a line feed: their first m are refused for want of it.
 without-take : (m : ℕ) (bytes : List ℕ) → Without lineFeed bytes → Without lineFeed (take m bytes)
@@ -29,12 +32,16 @@ without-take zero bytes without = tt
 without-take (suc m) [] without = tt
 without-take (suc m) (b ∷ bytes) without = (without .0, without-take m bytes (without .1))
 
+-- A text whose first line is refused.
+abbrev Stops : List Site → List ℕ → Refusal → Type 0
+Stops sites text why = (line : TextLine) × FirstLine text line × (lineEntered sites line ≡ refused why)
+
 unended-refused : (m : ℕ) (sites : List Site) (bytes : List ℕ) → Without lineFeed bytes → 1 ≤ m → 1 ≤ length bytes
-    → Reads sites (take m bytes) (refused BadLine)
+    → Stops sites (take m bytes) BadLine
 unended-refused zero sites bytes without some-taken some-byte = absurd (omega arith)
 unended-refused (suc m) sites [] without some-taken some-byte = absurd (omega arith)
 unended-refused (suc m) sites (b ∷ bytes) without some-taken some-byte =
-    refused-line (without-feed (without-take (suc m) (b ∷ bytes) without)) refl
+    (_, without-feed (without-take (suc m) (b ∷ bytes) without), refl)
 
 -- A line with its line feed among the first m bytes of a text is the first line of those.
 first-taken : (m : ℕ) (bytes rest : List ℕ) → Without lineFeed bytes → length bytes < m
@@ -48,13 +55,13 @@ first-taken m bytes rest without inside =
 
 -- A refused first line is refused in the first m bytes for the same reason, where these are more than a line's.
 refused-taken : (m : ℕ) (sites : List Site) {text : List ℕ} {line : TextLine} {why : Refusal} → FirstLine text line
-    → lineEntered sites line ≡ refused why → mostLineBytes < m → Reads sites (take m text) (refused why)
+    → lineEntered sites line ≡ refused why → mostLineBytes < m → Stops sites (take m text) why
 refused-taken m sites {why = why} (without-feed {b} {bytes} without) is long =
     let same : BadLine ≡ why = cc in rw (← same) (unended-refused m sites (b ∷ bytes) without (omega arith) (omega arith))
 refused-taken m sites {why = why} (with-feed {bytes} {rest} without) is long = by-length (decLt (length bytes) m)
   where
-    by-length : Dec (length bytes < m) → Reads sites (take m (bytes ++ (lineFeed ∷ rest))) (refused why)
-    by-length (yes inside) = refused-line (first-taken m bytes rest without inside) is
+    by-length : Dec (length bytes < m) → Stops sites (take m (bytes ++ (lineFeed ∷ rest))) why
+    by-length (yes inside) = (_, first-taken m bytes rest without inside, is)
     by-length (no past) =
         let past-m : m ≤ length bytes = omega arith in
         let because : refused BadLine ≡ refused why = rw (lt-ltb mostLineBytes (length bytes) (omega arith)) at is in
@@ -68,7 +75,8 @@ long-refused : {sites : List Site} {text : List ℕ} {result : Result (List Site
     → suc mostLineBytes * left + suc mostLineBytes ≤ m
     → (why : Refusal) × (result ≡ refused why) × Reads sites (take m text) (refused why)
 long-refused end m left full long longer = absurd (omega arith)
-long-refused {sites} (refused-line {why} first is) m left full long longer = (why, refl, refused-taken m sites first is (omega arith))
+long-refused {sites} (refused-line {why} first is) m left full long longer =
+    let (line, taken, refuses) = refused-taken m sites first is (omega arith) in (why, refl, refused-line taken refuses)
 long-refused (accepted-line (without-feed without) is further) m left full long longer = absurd (refused-not-accepted is)
 long-refused {sites} (accepted-line (with-feed {bytes} {rest} without) is further) m left full long longer =
     let of = entered-line {sites = sites} {line = record { bytes = bytes; ended = true; rest = rest }} is in
@@ -96,3 +104,37 @@ output-first input read is = ap outputOf (sym is) ∙ by-length (decLe longestTe
     by-length (yes long) =
         let both = longer-refused input long in ap (λ (r : Result (List Site)). outputFor (toPlace r)) (both .2 ∙ sym (both .1))
     by-length (no short) = ap outputOf (take-all longestText input (omega arith))
+
+-- ---- its first refused line
+
+-- The lines of sites by the rules take at most 21 bytes each.
+lines-short : (before after : List Site) → Listed (before ++ after) → length (listText after) ≤ suc mostLineBytes * length after
+unfolding listText
+lines-short before [] listed = omega arith
+lines-short before (site ∷ after) listed =
+    let behind = lines-short (before ++ (site ∷ [])) after (rw (append-snoc before site after) listed) in
+    omega (
+      arith,
+      behind,
+      line-short site (listed-site before site after listed),
+      length-append (listLine site) (lineFeed ∷ listText after),
+    )
+
+-- The first refused line of a text is that of its first 5,061 bytes, by its number and its refusal's: at most 240 lines stand before it,
+-- and of the bytes from it on more than 20 are left.
+pub line-first : (text : List ℕ) {n m : ℕ} (f : FirstRefused text n) (g : FirstRefused (take longestText text) m)
+    → (f .line-number ≡ g .line-number) × (n ≡ m)
+unfolding first-refused
+line-first text f g =
+    let (why, refuses, number) = refused-why f in
+    let listed = before-listed f in
+    let short = lines-short [] (f .before) listed in
+    let left : ℕ = longestText - length (listText (f .before)) in
+    let parts : longestText ≡ length (listText (f .before)) + left = omega (arith, short, listed .few) in
+    let taken : take longestText text ≡ listText (f .before) ++ take left (f .rest) =
+    ap (take longestText) (f .parts)
+    ∙ ap (λ (k : ℕ). take k (listText (f .before) ++ f .rest)) parts
+    ∙ take-append-add (listText (f .before)) (f .rest) left in
+    let (line, first, is) = refused-taken left (f .before) (f .line-is) refuses (omega (arith, short, listed .few)) in
+    let same = first-refused-one (first-refused (f .before) (take left (f .rest)) taken listed first is) g in
+    (f .line-number-is ∙ same .0, number ∙ same .1)

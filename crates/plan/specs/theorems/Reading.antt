@@ -192,7 +192,7 @@ entered-line {sites} {line = line} is =
 -- The line of a site by the rules.
 module _ (site : Site) (rules : ByRules site) where
   -- It has at most 20 bytes.
-  line-short : length (listLine site) ≤ mostLineBytes
+  pub line-short : length (listLine site) ≤ mostLineBytes
   unfolding listLine
   line-short =
       simp length-append (omega (

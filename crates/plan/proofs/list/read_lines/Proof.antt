@@ -1,4 +1,5 @@
--- `plan::list::read_lines` meets its contract. The loop's invariant: the lines up to `at` are entered, and the rest gives what the whole text gives.
+-- `plan::list::read_lines` meets its contract. The loop's invariant: the lines up to `at` are entered, and the rest gives what the whole
+-- text gives.
 -- Assumes nothing.
 use Prim.Native.Nat.{_-_}
 use native.Mathlib.Omega.{arith}

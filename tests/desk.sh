@@ -41,9 +41,10 @@ fresh() {
     : >"$desk/complained"
 }
 
-# complains WHY
+# complains WHY: and that the earlier sheet is as it was, where there is one
 complains() {
     echo "file-a-sheet: $1; no sheet was filed" >>"$desk/complained"
+    [ ! -f "$desk/here/level.sheet" ] || echo 'file-a-sheet: level.sheet is an earlier sheet, as it was' >>"$desk/complained"
 }
 
 # files WHAT STATUS WORDS..: the script in `here` with these words, and with $with as the program. Where $last is set, only the last line
@@ -127,6 +128,8 @@ END
 sites 241 >"$made/list"
 refusal 7 '241 sites' "$made/list"
 rm "$desk/here/level.sheet" "$desk/should/level.sheet"
+"$program" <"$made/list" >"$made/answer" 2>"$desk/complained"
+complains 'level.list is refused, number 7'
 files 'refused 7, and there was no sheet' 1 level.list
 
 # A sheet that is not whole, by programs that write $SHEET
@@ -142,7 +145,8 @@ EDGE=$PWD/$made/edge.so
 export SHEET PROGRAM MV EDGE FAILS BYTES
 written edge <<'END'
 #!/bin/sh
-LD_PRELOAD=$EDGE WRITE_FAILS_AFTER=$FAILS exec "$PROGRAM"
+# A path with a space or a colon in it cannot stand in LD_PRELOAD.
+cd "${EDGE%/*}" && LD_PRELOAD=./edge.so WRITE_FAILS_AFTER=$FAILS exec "$PROGRAM"
 END
 written first-bytes <<'END'
 #!/bin/sh
@@ -195,12 +199,16 @@ a line twice|side\t6\nA\t10\t10\t3\nA\t10\t10\t3\nB\t10\t14\t1\nC\t10\t20\t1\n
 a corner is missing|side\t6\nA\t10\t10\t3\nB\t10\t14\nC\t10\t20\t1\n
 the side is missing|A\t10\t10\t3\nB\t10\t14\t1\nC\t10\t20\t1\n
 another first word|size\t6\nA\t10\t10\t3\nB\t10\t14\t1\nC\t10\t20\t1\n
+a first line without a size|side\nA\t10\t10\t3\nB\t10\t14\t1\nC\t10\t20\t1\n
+another size|side\t06\nA\t10\t10\t3\nB\t10\t14\t1\nC\t10\t20\t1\n
+another corner|side\t6\nA\t10\t10\t3\nB\t10\t14\t5\nC\t10\t20\t1\n
+an empty corner|side\t6\nA\t10\t10\t3\nB\t10\t14\t\nC\t10\t20\t1\n
 END
 SHEET=$PWD/$made/example.sheet
 
 # A program or a script that is ended, and no program
 with=$desk/bin/killed
-last=1
+last=2
 for BYTES in 20 "$whole"; do
     fresh "$made/example.list"
     complains 'the program ended with status 137'
@@ -269,6 +277,7 @@ files 'a folder where the sheet should be' 1 level.list
 if [ -f /proc/version ]; then
     last=1
     fresh "$made/example.list"
+    rm "$desk/here/level.sheet" "$desk/should/level.sheet"
     complains 'nothing can be written beside /proc/version'
     files 'a folder that cannot be written' 1 /proc/version
     last=
@@ -295,6 +304,7 @@ if [ -n "$mounts" ]; then
     (cd "$desk/disk" && LIST=$OLDPWD/tests/longest.list SCRIPT=$script unshare "$mounts" "$desk/bin/on-a-full-disk") \
         >"$made/out" 2>"$made/err"
     printf 'status 1\nlevel.list\nlevel.sheet\nan earlier sheet\n' >"$made/should"
+    fresh tests/longest.list
     cp "$made/unwritten" "$desk/complained"
     complains 'the sheet of level.list is not whole'
     judge 'file-a-sheet, a full disk' "$made/should" "$desk/complained"
@@ -408,6 +418,9 @@ verdict 'clean-list, an argument' "$(
     difference 'standard output' "$made/out" "$made/nothing"
     difference 'standard error' "$made/err" "$made/should"
 )"
+printf 'a\0\t1\t1\n' | clean >"$made/out" 2>"$made/err"
+echo 'clean-list: this is no plain text, and it stays as it is' >"$made/should"
+verdict 'clean-list says that it did nothing' "$(difference 'standard error' "$made/err" "$made/should")"
 # What is said then is what `cat` says.
 clean </ >"$made/out" 2>"$made/err"
 verdict 'clean-list, a directory as input' "$(status $? 1)$(difference 'standard output' "$made/out" "$made/nothing")$(
@@ -415,7 +428,7 @@ verdict 'clean-list, a directory as input' "$(status $? 1)$(difference 'standard
 )"
 if [ -c /dev/full ]; then
     clean <tests/longest.list >/dev/full 2>"$made/err"
-    verdict 'clean-list, a full device as output' "$([ $? -ne 0 ] || echo 'came status 0')"
+    verdict 'clean-list, a full device as output' "$(status $? 1)"
 fi
 verdict 'clean-list leaves no temporary file' "$(ls -A "$desk/tmp")"
 

@@ -65,6 +65,28 @@ files() {
 with=$program
 last=
 
+# Cases that are meant to fail, with counts of their own: scripts that are wrong in one thing each, where status 1 and all as it was
+# should come
+meant=$(
+    passed=0 failed=0
+    while read -r wrong; do
+        printf '#!/bin/sh\n%s\n' "$wrong" >"$desk/bin/meant"
+        chmod +x "$desk/bin/meant"
+        script=$desk/bin/meant
+        fresh "$made/example.list"
+        files "meant to fail: $wrong" 1 level.list
+    done <<'END'
+exit 0
+echo said; exit 1
+echo said >&2; exit 1
+rm level.sheet; exit 1
+echo more >left; exit 1
+END
+    finish
+)
+verdict 'file-a-sheet, five cases that are meant to fail' "$([ "${meant##*
+}" = '0 passed, 5 failed' ] || echo "$meant")"
+
 # A list that is accepted: document 01's example
 # accepted NAME SHEET: it is called NAME, by which its sheet is SHEET
 accepted() {
@@ -230,14 +252,13 @@ accepted level.list level.sheet
 path=$PATH
 PATH=$desk/moving:$PATH
 files 'a signal when the sheet is in its place' 0 level.list
-mkdir "$desk/not-moving"
-written ../not-moving/mv <<'END'
+# One that fails
+written ../moving/mv <<'END'
 #!/bin/sh
 exit 1
 END
 fresh "$made/example.list"
 complains 'level.sheet cannot be written'
-PATH=$desk/not-moving:$path
 files 'a sheet that cannot be put in its place' 1 level.list
 PATH=$path
 with=$desk/bin/nothing
@@ -391,9 +412,29 @@ a quotation mark on one side|refused 2|"A\t1\t1\n|"A\t1\t1\n
 quotation marks twice|refused 2|""A""\t1\t1\n|""A""\t1\t1\n
 two names that differ in case|refused 4|a\t1\t1\nA\t2\t2\n|A\t1\t1\nA\t2\t2\n
 a heading row under a site|refused 3|A\t1\t1\nName\tx\ty\n|A\t1\t1\nNAME\tx\ty\n
-two heading rows|refused 3|Name\tx\ty\nBay\tcm\tcm\nA\t1\t1\n|NAME\tx\ty\nBAY\tcm\tcm\nA\t1\t1\n
+a second heading row|refused 3|Name\tx\ty\nBay\tcm\tcm\nA\t1\t1\n|BAY\tcm\tcm\nA\t1\t1\n
+two heading rows|refused 3|Name\tx\ty\nBay\tX\tY\nA\t1\t1\n|NAME\tx\ty\nBAY\tX\tY\nA\t1\t1\n
 a site whose numbers are to come|refused 3|A-01\tx\ty\nB\t1\t1\n|A-01\tx\ty\nB\t1\t1\n
 a word and a blank|refused 3|LIFT\tnorth\t\nB\t1\t1\n|LIFT\tnorth\t\nB\t1\t1\n
+points that part thousands|refused 3|A;1.000;500\n|A\t1.000\t500\n
+a row twice|refused 4|A\t1\t1\nA\t1\t1\n|A\t1\t1\nA\t1\t1\n
+a name alone|refused 1|A\t1\t1\nLIFT\nB\t2\t2\n|A\t1\t1\nLIFT\nB\t2\t2\n
+a remark|refused 2|A\t1\t1\n#\t2\t2\n|A\t1\t1\n#\t2\t2\n
+a row of totals is a site|side|A\t1\t1\nTotal\t60\t60\n|A\t1\t1\nTOTAL\t60\t60\n
+a space that parts thousands|refused 3|A\t1 234\t1\n|A\t1 234\t1\n
+an apostrophe that parts thousands|refused 3|A\t1'234\t1\n|A\t1'234\t1\n
+a power of ten|refused 3|A\t1e3\t1E3\n|A\t1e3\t1E3\n
+zeros within a decimal part|refused 3|A\t12.05\t1\n|A\t12.05\t1\n
+a name of nine bytes|refused 2|ABCDEFGHI;1;1\n|ABCDEFGHI\t1\t1\n
+other bytes in names|refused 2|A_1;1;1\nA/1;2;2\n|A_1\t1\t1\nA/1\t2\t2\n
+bars|refused 1|A\1741\1741\n|A\1741\1741\n
+colons|refused 1|A:1:1\n|A:1:1\n
+x, y, name|refused 3|10;20;A\n|10\t20\tA\n
+a form feed|refused 1|A\t1\t1\fB\t2\t2\n|A\t1\t1\fB\t2\t2\n
+a space that does not break|refused 3|A;1\302\240;1\n|A\t1\302\240\t1\n
+a heading row with y before x|refused 3|Name;y;x\nA;1;1\n|NAME\ty\tx\nA\t1\t1\n
+a heading row with the name last|refused 3|x;y;Name\n1;1;1\n|X\ty\tName\n1\t1\t1\n
+a site whose numbers are words|refused 3|LIFT;TBD;TBD\nA;1;1\n|LIFT\tTBD\tTBD\nA\t1\t1\n
 a zero byte|refused 2|a\0\t1\t1\r\n|a\0\t1\t1\r\n
 UTF-16 of other letters|refused 2|\377\376\344\0\t\0001\0\t\0001\0\n\0|\377\376\344\0\t\0001\0\t\0001\0\n\0
 UTF-16 whose zero bytes part no ASCII|refused 1|\377\376\0a\t\0001\0\n\0|\377\376\0a\t\0001\0\n\0
@@ -409,6 +450,17 @@ printf 'clean-list: left out as a heading row: BAY\tx\ty\n' >"$made/told"
 judge 'clean-list, examples/saved.csv; it says which row it left out' "$made/should" "$made/told"
 { printf 'side\t285\n'; printf '%s\n' 2 1 1 2 1 | paste "$made/should" -; } >"$desk/saved.sheet"
 gives "the sheet of examples/saved.csv" "$made/should" "$desk/saved.sheet"
+# Each byte within a name and within a number, in lines with tabs: only letters in names change.
+for byte in $(seq 1 9) 11 12 $(seq 14 255); do
+    byte=$(printf '\\%03o' "$byte")
+    printf "A${byte}1\t1\t1\nB\t1${byte}1\t2\n"
+done >"$desk/saved"
+LC_ALL=C awk 'BEGIN { FS = OFS = "\t" } { $1 = toupper($1); print }' "$desk/saved" >"$made/should"
+clean <"$desk/saved" >"$made/out" 2>"$made/err"
+judge 'clean-list, each byte within a field' "$made/should" "$made/nothing"
+sites 241 >"$made/list"
+clean <"$made/list" >"$made/out" 2>"$made/err"
+judge 'clean-list, 241 sites' "$made/list" "$made/nothing"
 
 clean "$made/example.list" <"$made/example.list" >"$made/out" 2>"$made/err"
 came=$?
@@ -450,6 +502,9 @@ toolchain 'the one that is named' 0 "$copy/bin:$PATH" 9
 echo 'another toolchain' >"$copy/at-hand"
 printf 'The file toolchain names  %s\nbut `rt version` prints   another toolchain\n' "$(cat toolchain)" >"$made/should"
 toolchain 'another' 1 "$copy/bin:$PATH" 9
+sed 's/.$/?/' toolchain >"$copy/at-hand"
+printf 'The file toolchain names  %s\nbut `rt version` prints   %s\n' "$(cat toolchain)" "$(cat "$copy/at-hand")" >"$made/should"
+toolchain 'another in its last byte' 1 "$copy/bin:$PATH" 9
 # What the shell says of a missing command is its own.
 printf 'The file toolchain names  %s\n' "$(cat toolchain)" >"$made/should"
 toolchain 'none' 1 "$desk/tools" 1

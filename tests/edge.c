@@ -32,7 +32,7 @@ ssize_t read(int fd, void *bytes, size_t count) {
 ssize_t write(int fd, const void *bytes, size_t count) {
     static size_t moved;
     if (fd != STDOUT_FILENO)
-        return syscall(SYS_write, fd, bytes, count);
+        return syscall(SYS_write, fd, bytes, fd == STDERR_FILENO ? least(count, number("WRITE_AT_MOST")) : count);
     size_t left = number("WRITE_FAILS_AFTER") - moved;
     if (left == 0) {
         errno = ENOSPC;

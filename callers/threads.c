@@ -13,6 +13,8 @@
 
 static uint8_t list[ROOM], output[ROOM];
 static size_t list_length, output_length;
+/* So that all threads are there when the first call is made. */
+static pthread_barrier_t all;
 
 /* What `lemoncanyon_sheet` should hand back. */
 static size_t should(void) {
@@ -22,6 +24,7 @@ static size_t should(void) {
 /* Null where every call was right. */
 static void *calls(void *wrong) {
     uint8_t buffer[LEMONCANYON_LONGEST];
+    pthread_barrier_wait(&all);
     for (int i = 0; i < CALLS; i++) {
         memset(buffer, i, sizeof buffer);
         size_t came = lemoncanyon_sheet(list, list_length, buffer, sizeof buffer);
@@ -42,6 +45,7 @@ int main(int count, char **words) {
 
     pthread_t threads[THREADS];
     int wrong = 0;
+    pthread_barrier_init(&all, 0, THREADS);
     for (int i = 0; i < THREADS; i++)
         if (pthread_create(&threads[i], 0, calls, threads) != 0) {
             puts("no thread");

@@ -116,9 +116,15 @@ for name in "$desk/here/level" ../here/level; do
     files "a list by its path, ${name##"$PWD/"}.list" 0 "$name.list"
 done
 fresh "$made/example.list"
+chmod a-w "$desk/here/level.sheet"
 cp "$made/example.sheet" "$desk/should/level.sheet"
 echo 'level.sheet: side 6, sites 3' >"$desk/said"
-files 'an earlier sheet is replaced' 0 level.list
+files 'an earlier sheet is replaced, write-protected too' 0 level.list
+# README has this line.
+fresh examples/level.list
+run <examples/level.list >"$desk/should/level.sheet"
+echo 'level.sheet: side 285, sites 60' >"$desk/said"
+files examples/level.list 0 level.list
 accepted level.list level.sheet
 mask=$(umask)
 umask 027
@@ -239,6 +245,7 @@ done
 last=
 with=$desk/bin/ends-its-caller
 fresh "$made/example.list"
+complains 'a signal ended it'
 files 'a signal' 1 level.list
 # The same from the `mv` that puts the sheet in its place: then it is filed, and said to be.
 mkdir "$desk/moving"
@@ -509,4 +516,6 @@ toolchain 'another in its last byte' 1 "$copy/bin:$PATH" 9
 printf 'The file toolchain names  %s\n' "$(cat toolchain)" >"$made/should"
 toolchain 'none' 1 "$desk/tools" 1
 rm "$copy/at-hand"
-toolchain 'one that fails' 1 "$copy/bin:$PATH" 1
+printf 'The file toolchain names  %s\nbut `rt version` prints   nothing to go by: %s\n' "$(cat toolchain)" \
+    "$(cat "$copy/at-hand" 2>&1)" >"$made/should"
+toolchain 'one that fails' 1 "$copy/bin:$PATH" 9

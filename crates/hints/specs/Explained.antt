@@ -12,7 +12,7 @@ use Rattle.hints.specs.declared.Explanation.the-variants.{Line, NoLine}
 use Rattle.hints.specs.declared.Hint.{Hint}
 use Rattle.hints.specs.Hint.{hintOf}
 
--- The first refused line is the one that the contract of reading names.
+-- The first refused line, which is the one that the contract of reading names, or no line, where every line is accepted.
 pub data Explained (text : List ℕ) : Explanation → Type 0 where
   by-line : {number : ℕ} {why : Refusal} {hint : Hint} (first : FirstRefused text (numberOf why)) → number ≡ first .line-number
       → hint ≡ hintOf number (first .line) → Explained text (Line number why hint)

@@ -20,7 +20,7 @@ use Rattle.hints.specs.Hint.{hintOf}
 use Rattle.hints.specs.Explained.{Explained, by-line, by-none}
 
 module _ {text : List ℕ} where
-  -- Nowhere, every line is accepted.
+  -- Where reading stops nowhere, every line is accepted.
   pub nowhere-explained : StopTold text stop.Nowhere → Explained text NoLine
   nowhere-explained (at-no-line reads) = by-none reads
 

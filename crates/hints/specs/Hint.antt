@@ -42,14 +42,14 @@ unfoldable pub startsWithMark : List ℕ → Bool
 startsWithMark bytes =
     startsWith (239 ∷ 187 ∷ 191 ∷ []) bytes || (startsWith (255 ∷ 254 ∷ []) bytes || startsWith (254 ∷ 255 ∷ []) bytes)
 
--- A line lacks its line feed, and not because it is long: where a text of 5,061 bytes or more is cut there, more than 20 bytes of the first
--- refused line are left.
+-- A line has no line feed and at most 20 bytes. Where reading 5,061 bytes cuts the first refused line, more than 20 of its bytes are left,
+-- so that such a line ends the whole text.
 unfoldable pub lacksFeed : List ℕ → Bool → Bool
 lacksFeed bytes ended = not ended && leb (length bytes) mostLineBytes
 
 -- A heading row has no digit, and is line number 1 of its list.
-unfoldable pub looksHeading : ℕ → List ℕ → Bool
-looksHeading number bytes = eqb number 1 && not (has 48 57 bytes)
+unfoldable pub isHeading : ℕ → List ℕ → Bool
+isHeading number bytes = eqb number 1 && not (has 48 57 bytes)
 
 -- ---- the table
 
@@ -68,7 +68,7 @@ firstHint [] = NoHint
 firstHint (test ∷ tests) = elim (test .holds) [ true ↦ test .hint | false ↦ firstHint tests ]
 
 -- The tests of a line and of its number in the list, from 1. A carriage return is byte 13, a to z are 97 to 122, a point is 46. From the
--- sixth row on the line is whole.
+-- sixth row on the line is whole. LongLine is for lines without line feed alone; for others the rule's own words say it.
 abbrev pub hintTests : ℕ → TextLine → List HintTest
 hintTests number line =
     startsWithMark (line .bytes) gives ByteOrderMark
@@ -76,7 +76,7 @@ hintTests number line =
     ∷ has 13 13 (line .bytes) gives CarriageReturn
     ∷ lacksFeed (line .bytes) (line .ended) gives NoLineFeed
     ∷ not (line .ended) gives LongLine
-    ∷ looksHeading number (line .bytes) gives Heading
+    ∷ isHeading number (line .bytes) gives Heading
     ∷ endsIn tab (line .bytes) gives EndTab
     ∷ hasSeparator (line .bytes) gives Separator
     ∷ has 97 122 (line .bytes) gives LowerCase

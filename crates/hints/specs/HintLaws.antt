@@ -22,7 +22,7 @@ use Rattle.plan.specs.theorems.Tables.{rest-none, unless-accepted}
 use Rattle.plan.specs.theorems.Entering.{Passed, tests-passed}
 use Rattle.plan.specs.theorems.Reading.{entered-line}
 use Rattle.hints.specs.declared.Hint.the-variants.{NoHint}
-use Rattle.hints.specs.Hint.{within, has, hasSeparator, endsIn, startsWith, startsWithMark, lacksFeed, looksHeading, hintOf}
+use Rattle.hints.specs.Hint.{within, has, hasSeparator, endsIn, startsWith, startsWithMark, lacksFeed, isHeading, hintOf}
 use Rattle.hints.specs.TestLaws.{ends-behind}
 
 -- ---- the bytes of an accepted line
@@ -90,7 +90,7 @@ ends-append xs ys ends =
       parts = ap (λ (l : List ℕ). xs ++ l) (ends .parts) ∙ sym (append-assoc xs (ends .front) (ends .digit ∷ []));
     }
 
--- What the tests ask of the bytes of a line. It holds of the line of a site whose name is by the rule.
+-- By this of the bytes of a line every test fails. It holds of the line of a site whose name is by the rule.
 record LineBytes (bytes : List ℕ) : Type 0 where
   all : AllListBytes bytes
   ends : EndsInDigit bytes
@@ -185,8 +185,8 @@ module _ {bytes : List ℕ} (of : LineBytes bytes) where
       ap (endsIn last) (of .ends .parts) ∙ ends-behind last (of .ends .front) (of .ends .digit)
       ∙ ne-eqb (of .ends .digit) last (omega (arith, of .ends .least))
 
-  no-heading : (number : ℕ) → looksHeading number bytes ≡ false
-  unfolding looksHeading
+  no-heading : (number : ℕ) → isHeading number bytes ≡ false
+  unfolding isHeading
   no-heading number =
       let some-digit : has 48 57 bytes ≡ true =
       ap (has 48 57) (of .ends .parts) ∙ has-behind 48 57 (of .ends .front) (of .ends .digit) (of .ends .least) (of .ends .most) in
@@ -213,7 +213,7 @@ bytes-no-hint number line of ended =
 
 -- ---- the theorem
 
--- The site of an accepted line is the one that its fields want, and its name is by the rule.
+-- So it is of an accepted line: its site is the one that its fields want, and its name is by the rule.
 accepted-bytes : (sites : List Site) (line : TextLine) {next : List Site} → lineEntered sites line ≡ accepted next
     → LineBytes (line .bytes)
 accepted-bytes sites line is =

@@ -128,7 +128,7 @@ start-found start bytes i past = rw (drop-of-length-le start past)
 abbrev rowAt : List HintTest → ℕ → HintTest
 rowAt tests i = getD tests i (false gives NoHint)
 
--- The first i rows fail, so those after them decide.
+-- What follows where the first i rows fail: those after them decide.
 pub record Failed (i : ℕ) (tests : List HintTest) : Type 0 where
   pub rest-gives : firstHint tests ≡ firstHint (drop i tests)
 

@@ -7,7 +7,8 @@ ghost use mathlib.Core.Path.{_≡_};
 ghost use lib.ListN.{length};
 ghost use Rattle.plan.specs.deciding.Reading.{cutLine};
 ghost use Rattle.hints.specs.Explained.{Explained};
-ghost use Rattle.hints.specs.Hint.{within, has, hasSeparator, endsIn, startsWith, startsWithMark, lacksFeed, looksHeading, lineOf, hintOf};
+ghost use Rattle.hints.specs.Hint.{within, has, hasSeparator, endsIn, startsWith, startsWithMark, lacksFeed, isHeading};
+ghost use Rattle.hints.specs.Hint.{lineOf, hintOf};
 
 // The causes, in the order in which they are looked for; the last says that none shows.
 pub enum Hint {
@@ -24,7 +25,7 @@ pub enum Hint {
     NoHint,
 }
 
-// Where and why a list is refused: at a line, counted from 1, by which rule and with which hint; or at no line, since each is accepted.
+// What is told of a list: the line at which it is refused, counted from 1, the refusal and the hint; or no line, where each is accepted.
 pub enum Explanation {
     Line(usize, Refusal, Hint),
     NoLine,
@@ -119,7 +120,7 @@ fn starts_with_mark(bytes: &[u8]) -> bool
     starts_with(bytes, b"\xFE\xFF")
 }
 
-// Whether a line lacks its line feed, and not because it is long.
+// Whether a line has no line feed and at most 20 bytes: one that was cut has more.
 fn lacks_feed(bytes: &[u8], ended: bool) -> bool
     ensures { λ r. ⌜ r ≡ lacksFeed (now (bytes .entry)) ended ⌝ }
 {
@@ -129,9 +130,9 @@ fn lacks_feed(bytes: &[u8], ended: bool) -> bool
     bytes.len() <= TextLimits::LINE
 }
 
-// Whether a line looks like a heading row: the first line, with no digit.
-fn looks_heading(line: usize, bytes: &[u8]) -> bool
-    ensures { λ r. ⌜ r ≡ looksHeading line (now (bytes .entry)) ⌝ }
+// Whether a line may be a heading row: the first line, with no digit.
+fn is_heading(line: usize, bytes: &[u8]) -> bool
+    ensures { λ r. ⌜ r ≡ isHeading line (now (bytes .entry)) ⌝ }
 {
     if line != 1 {
         return false;
@@ -158,7 +159,7 @@ fn hint_of(line: usize, bytes: &[u8], ended: bool) -> Hint
     if !ended {
         return Hint::LongLine;
     }
-    if looks_heading(line, bytes) {
+    if is_heading(line, bytes) {
         return Hint::Heading;
     }
     if ends_in(bytes, b'\t') {
@@ -184,7 +185,7 @@ fn hint_for(line: usize, text: &[u8]) -> Hint
     hint_of(line, &text[..n], n < text.len())
 }
 
-// Where and why a list is refused.
+// What is told of this list.
 pub fn explain(text: &[u8]) -> Explanation
     ensures { λ r. ⌜ Explained (now (text .entry)) r ⌝ }
 {

@@ -48,7 +48,7 @@ abbrev pub IsRefused : List ℕ → Type 0
 IsRefused text = (number : ℕ) × ListRefused text number
 
 -- The bytes read lie within the room, and what is to be written within the buffer. Where that starts with the letter r, of the word
--- refused, the list is.
+-- refused, the list is refused.
 pub record Ready (room : List ℕ) (reading : Reading) (n : ℕ) (buffer : List ℕ) : Type 0 where
   pub read-within : reading .at ≤ length room
   pub output-within : n ≤ length buffer

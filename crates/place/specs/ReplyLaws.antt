@@ -31,7 +31,7 @@ output-for {n} {after} read buffer size is =
     whole input first =
         ap (take n) is ∙ take-at (outputOf read) (drop (length (outputOf read)) buffer) n (sym size) ∙ output-first input read first
 
--- A part that starts with a byte starts where the whole does.
+-- The first byte of a part from the front is the first byte of the whole.
 first-byte : (n b : ℕ) (buffer rest : List ℕ) → take n buffer ≡ b ∷ rest → getD buffer 0 0 ≡ b
 first-byte zero b buffer rest is = absurd (omega (arith, ap length is))
 first-byte (suc n) b [] rest is = absurd (omega (arith, ap length is))

@@ -18,7 +18,7 @@ fn tell_rule(why: Refusal) {
         Refusal::NameTaken => tell(b"a name already in the plan\n"),
         Refusal::PlaceTaken => tell(b"a place already in the plan\n"),
         // Refusal::Full
-        _ => tell(b"a site where 240 stand\n"),
+        _ => tell(b"entering where 240 sites stand\n"),
     }
 }
 
@@ -46,7 +46,7 @@ fn tell_hint(hint: Hint) {
             b"place: hint: it has a space, a comma or a semicolon; a list has one tab between two fields and none of these\n",
         ),
         Hint::LowerCase => tell(
-            b"place: hint: it has lower-case letters; a list has A to Z, 0 to 9 and hyphen alone\n",
+            b"place: hint: it has lower-case letters; the letters of a list are A to Z\n",
         ),
         Hint::Point => tell(b"place: hint: it has a point; names and coordinates have none\n"),
         Hint::NoHint => {}
@@ -59,7 +59,7 @@ pub(crate) fn tell_refused(text: &[u8])
 {
     let explained = explain(text);
     let Explanation::Line(number, why, hint) = explained else {
-        tell(b"place: a list of no sites\n");
+        tell(b"place: placing a plan of no sites\n");
         return;
     };
     tell(b"place: line ");

@@ -26,8 +26,8 @@ use Rattle.plan.specs.calls.Answers.{outcomeNumber, sideAskedNumber, cor
 
 -- ---- demand 1: bad input is refused first, by its number, with plan and lent buffers as they were; all else ends in an answer
 
--- A call gives the number of the first row of its table whose test holds, and 0 where none does (`table-tells` of
--- `theorems/Tables`: that row's test holds and no earlier one's does). "A refusal hands back its number, the plan as it came, and every lent byte as it came."
+-- A call gives the number of the first row of its table whose test holds, and 0 where none does (`table-tells` of `theorems/Tables`: that
+-- row's test holds and no earlier one's does). "A refusal hands back its number, the plan as it came, and every lent byte as it came."
 pub record Refuses {Given : Type 0} (given number : ℕ) (before after : Given) : Type 0 where
   pub number-is : given ≡ number
   pub as-it-came : (given ≡ 0 → ⊥) → after ≡ before

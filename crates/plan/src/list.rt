@@ -188,7 +188,7 @@ pub fn read(text: &[u8]) -> Planned
     }
 }
 
-// The line at which `read` stops.
+// The line at which `read` stops, if it stops at one.
 pub fn refused_line(text: &[u8]) -> Stop
     ensures { λ r. ⌜ StopTold (now (text .entry)) r ⌝ }
 {

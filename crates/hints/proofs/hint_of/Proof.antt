@@ -71,17 +71,17 @@ tests5 c = tests4 (c .before)
 failed5 : (c : tie.Else5) → Failed 5 (tests5 c)
 failed5 c = row-fails (failed4 (c .before)) (omega arith) (c .if5 .left)
 
-looks-heading-requires : tie.Need-looks-heading-requires
-looks-heading-requires c κs = search needs
+is-heading-requires : tie.Need-is-heading-requires
+is-heading-requires c κs = search needs
 
 returns-6 : tie.Need-returns-6
-returns-6 c = row-gives (failed5 (c .before .before)) (omega arith) (sym (c .before .looks-heading .ensures) ∙ c .if6 .taken)
+returns-6 c = row-gives (failed5 (c .before .before)) (omega arith) (sym (c .before .is-heading .ensures) ∙ c .if6 .taken)
 
 abbrev tests6 : tie.Else6 → List HintTest
 tests6 c = tests5 (c .before .before)
 
 failed6 : (c : tie.Else6) → Failed 6 (tests6 c)
-failed6 c = row-fails (failed5 (c .before .before)) (omega arith) (sym (c .before .looks-heading .ensures) ∙ c .if6 .left)
+failed6 c = row-fails (failed5 (c .before .before)) (omega arith) (sym (c .before .is-heading .ensures) ∙ c .if6 .left)
 
 ends-in-requires : tie.Need-ends-in-requires
 ends-in-requires c κs = search needs
@@ -146,7 +146,7 @@ hint-of-spec =
     lacks-feed-requires
     returns-4
     returns-5
-    looks-heading-requires
+    is-heading-requires
     returns-6
     ends-in-requires
     returns-7

@@ -164,7 +164,7 @@ module _ {text : List ℕ} where
   lines-few (stops so-far first refuses) = reading-few so-far
   lines-few (ends so-far past) = reading-few so-far
 
-  -- That line is the first refused one.
+  -- The line where it stopped is the first refused one.
   pub lines-stop : {r : LinesRead} {why : Refusal} → LinesReads text r → r .outcome ≡ Refused why
       → StopTold text (AtLine (record { number = r .plan .count + 1; at = r .at; why = why }))
   unfolding first-refused unplacedPlan
@@ -177,8 +177,9 @@ module _ {text : List ℕ} where
       })
   lines-stop (ends so-far past) so = absurd (refused-not-done (sym so))
 
-  -- Where it stopped nowhere, the whole text is read into the plan.
-  pub lines-done : {r : LinesRead} → LinesReads text r → r .outcome ≡ Done → (record { outcome = Done; plan = r .plan } ≡ readFrom text) × Valid (r .plan)
+  -- Where it stopped nowhere, the whole text is read into the plan,
+  pub lines-done : {r : LinesRead} → LinesReads text r → r .outcome ≡ Done
+      → (record { outcome = Done; plan = r .plan } ≡ readFrom text) × Valid (r .plan)
   lines-done (stops so-far first refuses) so = absurd (refused-not-done so)
   lines-done (ends so-far past) so = (
     ap (λ (p : Plan). record { outcome = Done; plan = p }) (so-far .held)
@@ -186,6 +187,7 @@ module _ {text : List ℕ} where
     reading-valid so-far,
   )
 
+  -- and every line is accepted.
   pub lines-nowhere : {r : LinesRead} → LinesReads text r → r .outcome ≡ Done → StopTold text Nowhere
   lines-nowhere (stops so-far first refuses) so = absurd (refused-not-done so)
   lines-nowhere (ends so-far past) so = at-no-line (reading-all so-far past)

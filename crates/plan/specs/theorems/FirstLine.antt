@@ -109,7 +109,7 @@ accepted-before {sites} (accepted-line {next} first is further) (site ∷ added)
     in
     (ap suc (behind .0), behind .1)
 
--- So no text has two first refused lines, nor one line with two numbers, nor does it start at two places.
+-- So no text has two first refused lines, nor one with two numbers, nor one that starts at two places.
 pub first-refused-one : {text : List ℕ} {n m : ℕ} (f : FirstRefused text n) (g : FirstRefused text m)
     → (f .line-number ≡ g .line-number) × (n ≡ m) × (f .rest ≡ g .rest)
 first-refused-one {text} f g =

@@ -313,8 +313,8 @@ pub list-read : (sites : List Site) → Listed sites → readList (listText site
 list-read sites listed = reads-are (rw append-nil at (lines-read [] sites listed end))
 
 -- A line that is refused behind those of sites by the rules is the first that is.
-unfoldable pub first-refused : {text : List ℕ} (before : List Site) (rest : List ℕ) {line : TextLine} {why : Refusal} → text ≡ listText before ++ rest
-    → Listed before → FirstLine rest line → lineEntered before line ≡ refused why → FirstRefused text (numberOf why)
+unfoldable pub first-refused : {text : List ℕ} (before : List Site) (rest : List ℕ) {line : TextLine} {why : Refusal}
+    → text ≡ listText before ++ rest → Listed before → FirstLine rest line → lineEntered before line ≡ refused why → FirstRefused text (numberOf why)
 first-refused before rest {line} {why} parts listed first is =
     record {
       line-number = length before + 1;

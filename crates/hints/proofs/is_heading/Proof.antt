@@ -1,25 +1,25 @@
--- `looks_heading` meets its contract: another line is none, and of line 1 the digits decide.
+-- `is_heading` meets its contract: another line is none, and of line 1 the digits decide.
 -- Assumes nothing.
 use mathlib.Core.Path.{ap}
 use mathlib.Core.Bool.{not}
 use native.Mathlib.Omega.{arith}
 use borrow.Author.Needs.{needs}
 use borrow.Author.Tests.{eq-eqb, ne-eqb}
-use Rattle.hints.specs.Hint.{looksHeading}
-use Rattle.hints.proofs.looks_heading.Statement.{statement}
-use Rattle.hints.proofs.looks_heading.Tie as tie
+use Rattle.hints.specs.Hint.{isHeading}
+use Rattle.hints.proofs.is_heading.Statement.{statement}
+use Rattle.hints.proofs.is_heading.Tie as tie
 
 returns : tie.Need-returns
-unfolding looksHeading
+unfolding isHeading
 returns c = rw (ne-eqb (c .before .before .args .line) 1 (omega arith))
 
 has-byte-requires : tie.Need-has-byte-requires
 has-byte-requires c κs = search needs
 
 returns-2 : tie.Need-returns-2
-unfolding looksHeading
+unfolding isHeading
 returns-2 c =
     rw (eq-eqb (c .before .before .before .args .line) 1 (omega arith)) (ap not (c .has-byte .ensures))
 
-pub looks-heading-spec : {M : Type 1} → statement M
-looks-heading-spec = tie.close (tie.spec returns has-byte-requires returns-2)
+pub is-heading-spec : {M : Type 1} → statement M
+is-heading-spec = tie.close (tie.spec returns has-byte-requires returns-2)

@@ -14,7 +14,7 @@ fn tell_rule(why: Refusal) {
             b"a line of other than three fields, over 20 bytes, or without its line feed\n",
         ),
         Refusal::BadName => tell(b"a name outside the rule\n"),
-        Refusal::BadCoordinate => tell(b"a coordinate outside the rule\n"),
+        Refusal::BadNumber => tell(b"a coordinate outside the rule\n"),
         Refusal::NameTaken => tell(b"a name already in the plan\n"),
         Refusal::PlaceTaken => tell(b"a place already in the plan\n"),
         // Refusal::Full

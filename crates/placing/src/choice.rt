@@ -1,18 +1,29 @@
 // Choosing at a side: the walk in list order, in which each undecided site takes the lowest open corner whose trial does not
 // fail. What it yields is the first good choice.
 use crate::crowding::Crowding;
+use crate::crowding::crowding_of;
 use crate::fresh::fresh_state;
 use crate::trial::try_corner;
 use crate::units::HalfUnits;
 use crate::units::Limits;
 ghost use mathlib.Core.Path.{_≡_};
-ghost use Prim.Native.Nat.{_+_, _<_};
+ghost use mathlib.Core.List.{_++_};
+ghost use Prim.Native.Nat.{_+_, _-_, _≤_, _<_};
+ghost use lib.ListN.{take, replicate};
+ghost use Rattle.placing.specs.rules.Units.{mostSites};
+ghost use Rattle.placing.specs.calls.Placing.{choiceAs};
 ghost use Rattle.placing.specs.deciding.Answer.{firstGood};
 ghost use Rattle.placing.specs.code.Sites.{sitesOf};
 ghost use Rattle.placing.specs.code.Labels.{labels};
 ghost use Rattle.placing.specs.code.Ways.{Tried, WalkedTo, Kept};
-ghost use Rattle.placing.specs.code.Asks.{MayWalk, MayDecide, MayChoose};
+ghost use Rattle.placing.specs.code.Asks.{MayWalk, MayDecide, MayChoose, MayChooseAt};
 ghost use Rattle.placing.specs.code.Chosen.{choiceIn};
+
+// Whether a good choice exists at a side, and the first one: the corner of each site in list order, 0 past the last and where none exists.
+pub struct Choice {
+    pub exists: bool,
+    pub corners: [u8; Limits::SITES],
+}
 
 // The corners of a good choice, where there is one.
 pub(crate) struct Chosen {
@@ -114,5 +125,49 @@ pub(crate) fn choose(
     Chosen {
         ok,
         corners: decided,
+    }
+}
+
+// The corners of the first `n` sites, 0 past them.
+fn first_corners(corners: [u8; Limits::SITES], n: usize) -> [u8; Limits::SITES]
+    requires { ⌜ n ≤ mostSites ⌝ }
+    ensures { λ r. ⌜ r ≡ take n corners ++ replicate (mostSites - n) 0 ⌝ }
+{
+    let mut first = [0u8; Limits::SITES];
+    for i in 0..n {
+        first[i] = corners[i];
+    }
+    first
+}
+
+// The first good choice at a side for the first `n` sites at these coordinates. Where the top that crowding leaves is below the side there
+// is none.
+pub(crate) fn first_choice(
+    xs: &[u32; Limits::SITES],
+    ys: &[u32; Limits::SITES],
+    n: usize,
+    side: HalfUnits,
+    marks: &mut [u8],
+) -> Choice
+    requires { ⌜ MayChooseAt n (now xs) (now ys) side (now marks) ⌝ }
+    ensures first { λ r. ⌜ r ≡ choiceAs (firstGood (side .0) (sitesOf n (now (xs .entry)) (now (ys .entry)))) ⌝ }
+    ensures kept { λ r. ⌜ Kept n (now (marks .entry)) (now (marks .exit)) ⌝ }
+{
+    let none = Choice {
+        exists: false,
+        corners: [0u8; Limits::SITES],
+    };
+    let crowding = crowding_of(xs, ys, n, side);
+    if crowding.top.below(side) {
+        return none;
+    }
+    let chosen = choose(xs, ys, n, crowding, side, marks);
+    if !chosen.ok {
+        return none;
+    }
+    let corners = chosen.corners;
+    Choice {
+        exists: true,
+        corners: first_corners(corners, n),
     }
 }

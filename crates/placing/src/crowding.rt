@@ -14,10 +14,10 @@ ghost use Rattle.placing.specs.rules.Units.{OnPlan, mostSites};
 ghost use Rattle.placing.specs.rules.Corner.{Corner};
 ghost use Rattle.placing.specs.code.Sites.{Held, sitesOf, Judged};
 ghost use Rattle.placing.specs.code.Reach.{distanceBetween, Lowered, ReachesWithin, Passed, SiteReaches};
-ghost use Rattle.placing.specs.code.Crowding.{WithSite, CrowdingIs, judgedFree};
+ghost use Rattle.placing.specs.code.Crowding.{WithSite, CrowdingIs};
 
-// The reach of each corner of each site, in the places of `Limits::WAYS`; and the top, at most 20,001: no judged side above it leaves every
-// site a corner. For sides up to the top, the doubled label covers another site where it is above the corner's reach.
+// The reach of each corner of each site, in the places of `Limits::WAYS`; and the top: no side above it, up to the one that was asked,
+// leaves every site a corner. For sides up to the top, the doubled label covers another site where it is above the corner's reach.
 pub(crate) struct Crowding {
     pub reaches: [HalfUnits; Limits::WAYS],
     pub top: HalfUnits,
@@ -100,18 +100,19 @@ fn with_site(crowding: Crowding, i: usize, reaches: [HalfUnits; Limits::CORNERS]
     next
 }
 
-// The reaches of all sites, and the top, which each site may lower: the reaches of the next are found up to it.
+// The reaches of all sites for sides up to `most`, and the top, which each site may lower: the reaches of the next are found up to it.
 pub(crate) fn crowding_of(
     xs: &[u32; Limits::SITES],
     ys: &[u32; Limits::SITES],
     n: usize,
+    most: HalfUnits,
 ) -> Crowding
-    requires { ⌜ Held n (now xs) (now ys) judgedFree ⌝ }
-    ensures { λ r. ⌜ CrowdingIs (sitesOf n (now (xs .entry)) (now (ys .entry))) n r ⌝ }
+    requires { ⌜ Held n (now xs) (now ys) most ⌝ }
+    ensures { λ r. ⌜ CrowdingIs (most .0) (sitesOf n (now (xs .entry)) (now (ys .entry))) n r ⌝ }
 {
     let mut crowding = Crowding {
         reaches: [HalfUnits(0); Limits::WAYS],
-        top: HalfUnits(Limits::FREE_SIDE),
+        top: most,
     };
     for i in 0..n {
         crowding = with_site(crowding, i, reaches_of(xs, ys, n, i, crowding.top));

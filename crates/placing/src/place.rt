@@ -1,16 +1,20 @@
-// Placing a list of places.
-use crate::side::Placed;
-use crate::side::find_answer;
+// Finding the side of a list of places, and choosing their corners at a side.
+use crate::choice::Choice;
+use crate::choice::first_choice;
+use crate::side::greatest_side;
 use crate::sites::coordinates_of;
 use crate::units::Limits;
 use crate::units::Place;
+use crate::units::Side;
+use crate::units::judged_at;
 ghost use mathlib.Core.Path.{_≡_};
 ghost use mathlib.Core.List.{_++_};
 ghost use Prim.Native.Nat.{_*_, _≤_};
 ghost use lib.ListN.{length, take, drop, replicate};
-ghost use Rattle.placing.specs.rules.Answer.{sideNumber};
-ghost use Rattle.placing.specs.calls.Placing.{placedAs, MayPlace};
-ghost use Rattle.placing.specs.deciding.Answer.{answerOf};
+ghost use Rattle.placing.specs.rules.Units.{freeSide};
+ghost use Rattle.placing.specs.rules.Answer.{judgedAt};
+ghost use Rattle.placing.specs.calls.Placing.{choiceAs, MayPlace};
+ghost use Rattle.placing.specs.deciding.Answer.{answerOf, firstGood};
 
 // Zeroes the first `m` bytes of a table.
 fn clear(table: &mut [u8], m: usize)
@@ -22,17 +26,35 @@ fn clear(table: &mut [u8], m: usize)
     }
 }
 
-// The answer for the first `n` of these sites. Of the lent table the first `n` bytes hold marks until the end.
-pub fn place_labels(sites: [Place; Limits::SITES], n: usize, table: &mut [u8]) -> Placed
+// The greatest side of the first `n` of these sites. Of the lent table the first `n` bytes hold marks until the end.
+pub fn find_side(sites: [Place; Limits::SITES], n: usize, table: &mut [u8]) -> Side
     requires { ⌜ MayPlace n sites (now table) ⌝ }
-    ensures answer { λ r. ⌜ r ≡ placedAs (answerOf (take n sites)) ⌝ }
-    ensures side { λ r. ⌜ sideNumber (r .side) ≡ sideNumber (answerOf (take n sites) .side) ⌝ }
+    ensures side { λ r. ⌜ r ≡ answerOf (take n sites) .side ⌝ }
     ensures table { λ r. ⌜ now (table .exit) ≡ replicate (n * n) 0 ++ drop (n * n) (now (table .entry)) ⌝ }
 {
     let at = coordinates_of(sites, n);
     let xs = at.xs;
     let ys = at.ys;
-    let placed = find_answer(&xs, &ys, n, table);
+    let side = greatest_side(&xs, &ys, n, table);
     clear(table, n * n);
-    placed
+    side
+}
+
+// The first good choice at this side, where there is one. The table is used as in finding.
+pub fn choose_corners(
+    sites: [Place; Limits::SITES],
+    n: usize,
+    side: Side,
+    table: &mut [u8],
+) -> Choice
+    requires { ⌜ MayPlace n sites (now table) × (judgedAt side ≤ freeSide) ⌝ }
+    ensures first { λ r. ⌜ r ≡ choiceAs (firstGood (judgedAt side) (take n sites)) ⌝ }
+    ensures table { λ r. ⌜ now (table .exit) ≡ replicate (n * n) 0 ++ drop (n * n) (now (table .entry)) ⌝ }
+{
+    let at = coordinates_of(sites, n);
+    let xs = at.xs;
+    let ys = at.ys;
+    let chosen = first_choice(&xs, &ys, n, judged_at(side), table);
+    clear(table, n * n);
+    chosen
 }

@@ -7,42 +7,19 @@ use crate::units::HalfUnits;
 use crate::units::Limits;
 use crate::units::Side;
 ghost use mathlib.Core.Path.{_≡_};
-ghost use mathlib.Core.List.{_++_};
-ghost use Prim.Native.Nat.{_-_, _≤_, _<_};
-ghost use lib.ListN.{take, replicate};
-ghost use Rattle.placing.specs.rules.Units.{mostSites};
+ghost use Prim.Native.Nat.{_<_};
 ghost use Rattle.placing.specs.deciding.Answer.{answerOf};
 ghost use Rattle.placing.specs.code.Sites.{sitesOf};
 ghost use Rattle.placing.specs.code.Ways.{Kept};
-ghost use Rattle.placing.specs.calls.Placing.{placedAs};
 ghost use Rattle.placing.specs.code.Placed.{MayFind, MayBisect};
 ghost use Rattle.placing.specs.code.Bisect.{NextIs, MayNarrow, Narrowed, SideIs};
 
-// The placed answer: the side, and the corner of each site in list order, 0 past the last.
-pub struct Placed {
-    pub side: Side,
-    pub corners: [u8; Limits::SITES],
-}
-
-// The corners of the first `n` sites, 0 past them.
-fn first_corners(corners: [u8; Limits::SITES], n: usize) -> [u8; Limits::SITES]
-    requires { ⌜ n ≤ mostSites ⌝ }
-    ensures { λ r. ⌜ r ≡ take n corners ++ replicate (mostSites - n) 0 ⌝ }
-{
-    let mut first = [0u8; Limits::SITES];
-    for i in 0..n {
-        first[i] = corners[i];
-    }
-    first
-}
-
-// Two sides: `low` has a good choice, the first with these corners, and no judged side from `high` on has one. `next`, below `high`, is
-// to be tried next; it is above `low` while a side is left to try.
+// Two sides: `low` has a good choice, and no judged side from `high` on has one. `next`, below `high`, is to be tried next; it is
+// above `low` while a side is left to try.
 struct Between {
     low: HalfUnits,
     high: HalfUnits,
     next: HalfUnits,
-    corners: [u8; Limits::SITES],
 }
 
 // The side half-way between two: what is to be tried next.
@@ -63,7 +40,7 @@ fn narrow(
     marks: &mut [u8],
 ) -> Between
     requires { ⌜ MayNarrow n (now xs) (now ys) crowding between (now marks) ⌝ }
-    ensures narrowed { λ r. ⌜ Narrowed (sitesOf n (now (xs .entry)) (now (ys .entry))) n (crowding .top .0) between r ⌝ }
+    ensures narrowed { λ r. ⌜ Narrowed (sitesOf n (now (xs .entry)) (now (ys .entry))) (crowding .top .0) between r ⌝ }
     ensures kept { λ r. ⌜ Kept n (now (marks .entry)) (now (marks .exit)) ⌝ }
 {
     let low = between.low;
@@ -71,20 +48,16 @@ fn narrow(
     let side = between.next;
     let chosen = choose(xs, ys, n, crowding, side, marks);
     if chosen.ok {
-        let corners = chosen.corners;
         return Between {
             low: side,
             high,
             next: middle(side, high),
-            corners,
         };
     }
-    let corners = between.corners;
     Between {
         low,
         high: side,
         next: middle(low, side),
-        corners,
     }
 }
 
@@ -99,17 +72,16 @@ fn side_of(greatest: HalfUnits) -> Side
     }
 }
 
-// The answer by bisection. At 1 every choice is good, and corner 1 everywhere is the first; the top is tried next, since it often has
-// a good choice.
+// The greatest side by bisection. At 1 every choice is good; the top is tried next, since it often has a good choice.
 fn bisect(
     xs: &[u32; Limits::SITES],
     ys: &[u32; Limits::SITES],
     n: usize,
     crowding: Crowding,
     marks: &mut [u8],
-) -> Placed
+) -> Side
     requires { ⌜ MayBisect n (now xs) (now ys) crowding (now marks) ⌝ }
-    ensures answer { λ r. ⌜ r ≡ placedAs (answerOf (sitesOf n (now (xs .entry)) (now (ys .entry)))) ⌝ }
+    ensures side { λ r. ⌜ r ≡ answerOf (sitesOf n (now (xs .entry)) (now (ys .entry))) .side ⌝ }
     ensures kept { λ r. ⌜ Kept n (now (marks .entry)) (now (marks .exit)) ⌝ }
 {
     let top = crowding.top;
@@ -117,30 +89,24 @@ fn bisect(
         low: HalfUnits(Limits::LEAST_SIDE),
         high: HalfUnits(top.0 + 1),
         next: top,
-        corners: [1u8; Limits::SITES],
     };
     while between.low.below(between.next) {
         between = narrow(xs, ys, n, crowding, between, marks);
     }
-    let corners = between.corners;
-    let first = first_corners(corners, n);
-    Placed {
-        side: side_of(between.low),
-        corners: first,
-    }
+    side_of(between.low)
 }
 
-// The answer for the first `n` sites at these coordinates.
-pub(crate) fn find_answer(
+// The greatest side of the first `n` sites at these coordinates.
+pub(crate) fn greatest_side(
     xs: &[u32; Limits::SITES],
     ys: &[u32; Limits::SITES],
     n: usize,
     marks: &mut [u8],
-) -> Placed
+) -> Side
     requires { ⌜ MayFind n (now xs) (now ys) (now marks) ⌝ }
-    ensures answer { λ r. ⌜ r ≡ placedAs (answerOf (sitesOf n (now (xs .entry)) (now (ys .entry)))) ⌝ }
+    ensures side { λ r. ⌜ r ≡ answerOf (sitesOf n (now (xs .entry)) (now (ys .entry))) .side ⌝ }
     ensures kept { λ r. ⌜ Kept n (now (marks .entry)) (now (marks .exit)) ⌝ }
 {
-    let crowding = crowding_of(xs, ys, n);
+    let crowding = crowding_of(xs, ys, n, HalfUnits(Limits::FREE_SIDE));
     bisect(xs, ys, n, crowding, marks)
 }

@@ -2,6 +2,7 @@
 ghost use mathlib.Core.Path.{_≡_};
 ghost use Prim.Native.Nat.{_*_, _≤_, _<_, _/_, max};
 ghost use Rattle.placing.specs.rules.Units.{inHalfUnits, greatestCoordinate};
+ghost use Rattle.placing.specs.rules.Answer.{judgedAt};
 ghost use Rattle.placing.specs.code.Sites.{Judged};
 ghost use Rattle.placing.specs.deciding.Decides.{Decides};
 
@@ -21,6 +22,16 @@ pub struct Place {
 pub enum Side {
     Number(HalfUnits),
     Free,
+}
+
+// The side at which a side is judged: free at 20,001.
+pub(crate) fn judged_at(side: Side) -> HalfUnits
+    ensures { λ r. ⌜ r .0 ≡ judgedAt side ⌝ }
+{
+    match side {
+        Side::Number(h) => h,
+        Side::Free => HalfUnits(Limits::FREE_SIDE),
+    }
 }
 
 // The limits of document 01, "Units and limits".

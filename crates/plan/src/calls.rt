@@ -10,7 +10,11 @@ use crate::plan::enter_read;
 use crate::plan::refuse;
 use crate::refusal::Outcome;
 use crate::refusal::Refusal;
-use placing::place::place_labels;
+use placing::choice::Choice;
+use placing::place::choose_corners;
+use placing::place::find_side;
+use placing::units::Limits;
+use placing::units::Side;
 ghost use mathlib.Core.Path.{_≡_};
 ghost use Rattle.placing.specs.rules.Choice.{cornerAt};
 ghost use Rattle.placing.specs.rules.Answer.{sideNumber};
@@ -33,30 +37,79 @@ pub fn enter(plan: Plan, name: &[u8], x: u64, y: u64) -> Planned
     enter_read(plan, site_name, site_place)
 }
 
-// Finds the answer of the plan's sites: tests 8, 11.
-pub fn place(plan: Plan, table: &mut [u8]) -> Planned
+// What keeps `n` sites from being placed with a work table of so many bytes: tests 8, 11.
+fn unready(n: usize, bytes: usize) -> Outcome
+    requires { ⌜ n ≤ mostSites ⌝ }
+    ensures { λ r. ⌜ r ≡ outcomeOf (firstRefusal (findingTests n bytes)) ⌝ }
+{
+    if n == 0 {
+        return Outcome::Refused(Refusal::NoSites);
+    }
+    if bytes < n * n {
+        return Outcome::Refused(Refusal::ShortTable);
+    }
+    Outcome::Done
+}
+
+// Finds the greatest side of the plan's sites: tests 8, 11. The plan stays with the caller, as it was.
+pub fn find(plan: Plan, table: &mut [u8]) -> AskedSide
     requires { ⌜ Valid plan ⌝ }
-    ensures answer { λ r. ⌜ r ≡ placedIn plan (now (table .entry)) ⌝ }
-    ensures table { λ r. ⌜ now (table .exit) ≡ tableAfter plan (now (table .entry)) ⌝ }
-    ensures valid { λ r. ⌜ Valid (r .plan) ⌝ }
-    ensures told { λ r. ⌜ PlaceTold plan (now (table .entry)) r (now (table .exit)) ⌝ }
+    ensures answer { λ r. ⌜ r ≡ sideFoundIn plan (now (table .entry)) ⌝ }
+    ensures table { λ r. ⌜ now (table .exit) ≡ tableFound plan (now (table .entry)) ⌝ }
+    ensures told { λ r. ⌜ FindTold plan (now (table .entry)) r (now (table .exit)) ⌝ }
 {
     let n = plan.count;
-    if n == 0 {
-        return refuse(plan, Refusal::NoSites);
-    }
-    if table.len() < n * n {
-        return refuse(plan, Refusal::ShortTable);
+    let failed = unready(n, table.len());
+    if let Outcome::Refused(why) = failed {
+        return AskedSide::NoSide(why);
     }
     let places = plan.places;
-    let answer = place_labels(places, n, table);
-    Planned {
-        outcome: Outcome::Done,
-        plan: Plan::answered(plan, answer),
+    AskedSide::SideIs(find_side(places, n, table))
+}
+
+// Whether a side can be given: a number from 1 to 20,000, or free.
+pub(crate) fn is_side(side: Side) -> bool
+    ensures { λ r. ⌜ r ≡ isSide side ⌝ }
+{
+    match side {
+        Side::Number(h) => {
+            if h.0 < Limits::LEAST_SIDE {
+                return false;
+            }
+            h.0 <= Limits::GREATEST_SIDE
+        }
+        Side::Free => true,
     }
 }
 
-// The side of the answer: test 9.
+// Chooses the first good choice at a given side: tests 3, 8, 11, 12. The plan is then placed at that side.
+pub fn choose_at(plan: Plan, side: Side, table: &mut [u8]) -> Planned
+    requires { ⌜ Valid plan ⌝ }
+    ensures answer { λ r. ⌜ r ≡ chosenIn plan side (now (table .entry)) ⌝ }
+    ensures table { λ r. ⌜ now (table .exit) ≡ tableChosen plan side (now (table .entry)) ⌝ }
+    ensures valid { λ r. ⌜ Valid (r .plan) ⌝ }
+    ensures told { λ r. ⌜ ChooseTold plan side (now (table .entry)) r (now (table .exit)) ⌝ }
+{
+    if !is_side(side) {
+        return refuse(plan, Refusal::BadNumber);
+    }
+    let n = plan.count;
+    let failed = unready(n, table.len());
+    if let Outcome::Refused(why) = failed {
+        return refuse(plan, why);
+    }
+    let places = plan.places;
+    let choice = choose_corners(places, n, side, table);
+    let Choice::First(corners) = choice else {
+        return refuse(plan, Refusal::NoChoice);
+    };
+    Planned {
+        outcome: Outcome::Done,
+        plan: Plan::placed_at(plan, side, corners),
+    }
+}
+
+// The side that the plan is placed at: test 9.
 pub fn side(plan: Plan) -> AskedSide
     requires { ⌜ Valid plan ⌝ }
     ensures answer { λ r. ⌜ r ≡ sideAsked plan ⌝ }

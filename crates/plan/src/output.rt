@@ -1,8 +1,11 @@
 // The whole way from a list to the bytes that the placing program writes.
-use crate::calls::place;
+use crate::calls::choose_at;
+use crate::calls::find;
 use crate::limits::TextLimits;
 use crate::list::read;
+use crate::plan::AskedSide;
 use crate::plan::Planned;
+use crate::plan::refuse;
 use crate::put::put_byte;
 use crate::put::put_bytes;
 use crate::put::put_decimal;
@@ -47,7 +50,11 @@ pub fn place_list(text: &[u8]) -> Planned
     }
     let mut table = [0u8; TextLimits::TABLE];
     let level = listed.plan;
-    place(level, &mut table)
+    let found = find(level, &mut table);
+    match found {
+        AskedSide::SideIs(side) => choose_at(level, side, &mut table),
+        AskedSide::NoSide(why) => refuse(level, why),
+    }
 }
 
 // The output for a list: its sheet, or the line of its refusal, and its length. The array has room for every sheet.

@@ -5,7 +5,6 @@ use crate::name::same_name;
 use crate::number::PlaceRead;
 use crate::refusal::Outcome;
 use crate::refusal::Refusal;
-use placing::side::Placed;
 use placing::units::Limits;
 use placing::units::Place;
 use placing::units::Side;
@@ -86,14 +85,12 @@ impl Plan {
         }
     }
 
-    // The plan with its answer.
-    pub(crate) fn answered(plan: Plan, answer: Placed) -> Plan
-        ensures { λ r. ⌜ r ≡ placedOf (plan .count) (plan .names) (plan .places) answer ⌝ }
+    // The plan placed at a side with these corners.
+    pub(crate) fn placed_at(plan: Plan, side: Side, corners: [u8; Limits::SITES]) -> Plan
+        ensures { λ r. ⌜ r ≡ placedOf (plan .count) (plan .names) (plan .places) side corners ⌝ }
     {
         let names = plan.names;
         let places = plan.places;
-        let side = answer.side;
-        let corners = answer.corners;
         Plan {
             count: plan.count,
             names,
@@ -159,7 +156,7 @@ fn first_failed(unnamed: bool, outside: bool, full: bool, named: bool, placed: b
         return Outcome::Refused(Refusal::BadName);
     }
     if outside {
-        return Outcome::Refused(Refusal::BadCoordinate);
+        return Outcome::Refused(Refusal::BadNumber);
     }
     if full {
         return Outcome::Refused(Refusal::Full);

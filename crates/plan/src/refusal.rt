@@ -1,11 +1,11 @@
-// Why a call is refused, with document 01's numbers.
+// Why a call is refused, with the numbers of documents 01 and 02.
 ghost use mathlib.Core.Path.{_≡_};
 ghost use Rattle.plan.specs.rules.Refusal.{numberOf};
 
 pub enum Refusal {
     BadLine,
     BadName,
-    BadCoordinate,
+    BadNumber,
     NameTaken,
     PlaceTaken,
     NoSuchSite,
@@ -14,6 +14,7 @@ pub enum Refusal {
     NotPlaced,
     ShortBuffer,
     ShortTable,
+    NoChoice,
 }
 
 // The answer of a call that hands back nothing but a plan.
@@ -29,7 +30,7 @@ pub fn number_of(refusal: Refusal) -> u8
     match refusal {
         Refusal::BadLine => 1,
         Refusal::BadName => 2,
-        Refusal::BadCoordinate => 3,
+        Refusal::BadNumber => 3,
         Refusal::NameTaken => 4,
         Refusal::PlaceTaken => 5,
         Refusal::NoSuchSite => 6,
@@ -38,5 +39,6 @@ pub fn number_of(refusal: Refusal) -> u8
         Refusal::NotPlaced => 9,
         Refusal::ShortBuffer => 10,
         Refusal::ShortTable => 11,
+        Refusal::NoChoice => 12,
     }
 }

@@ -10,7 +10,7 @@ use Rattle.placing.specs.declared.crowding.Crowding.{Crowding}
 use Rattle.placing.specs.rules.Corner.{Corner}
 use Rattle.placing.specs.rules.Choice.{cornerAt}
 use Rattle.placing.specs.code.Sites.{Held, HasPlace, sitesOf, Judged}
-use Rattle.placing.specs.code.Crowding.{CrowdingIs}
+use Rattle.placing.specs.code.Crowding.{ReachesAre}
 use Rattle.placing.specs.search.Rows.{rowOf}
 use Rattle.placing.specs.search.State.{Underway, Closed, Walked}
 use Rattle.placing.specs.code.Labels.{MeetAt, labels}
@@ -75,5 +75,10 @@ pub record MayDecide (n : ℕ) (xs ys : List ℕ) (side : HalfUnits) (ways decid
 pub record MayChoose (n : ℕ) (xs ys : List ℕ) (side : HalfUnits) (crowding : Crowding) (marks : List ℕ) : Type 0 where
   pub held : Held n xs ys side
   pub room : n ≤ length marks
-  pub crowding-is : CrowdingIs (sitesOf n xs ys) n crowding
+  pub reaches : ReachesAre (sitesOf n xs ys) n crowding
   pub inside : side .0 ≤ crowding .top .0
+
+-- Choosing at a side, with nothing prepared.
+pub record MayChooseAt (n : ℕ) (xs ys : List ℕ) (side : HalfUnits) (marks : List ℕ) : Type 0 where
+  pub held : Held n xs ys side
+  pub room : n ≤ length marks

@@ -1,17 +1,20 @@
 -- What choosing hands back, as document 01 has it: the first good choice, or none.
 -- Assumes nothing.
-use mathlib.Core.Path.{_≡_, refl, sym}
+use mathlib.Core.Path.{_≡_, refl, sym, ap, _∙_}
 use mathlib.Core.Bool.{Bool, true, false}
-use mathlib.Core.List.{List}
+use mathlib.Core.List.{List, _++_}
 use mathlib.Core.Option.{Option, some, none}
-use Prim.Native.Nat.{ℕ, _≤_}
+use Prim.Native.Nat.{ℕ, _-_, _≤_}
 use native.Mathlib.Omega.{arith}
-use lib.ListN.{length, take}
+use lib.ListN.{length, take, replicate}
+use Rattle.placing.specs.declared.choice.Choice.{Choice}
 use Rattle.placing.specs.declared.choice.Chosen.{Chosen}
+use Rattle.placing.specs.declared.units.Place.{Place}
 use Rattle.placing.specs.rules.Units.{mostSites}
 use Rattle.placing.specs.rules.Choice.{First}
 use Rattle.placing.specs.deciding.Answer.{firstGood}
-use Rattle.placing.specs.theorems.Answer.{first-found, none-found}
+use Rattle.placing.specs.calls.Placing.{choiceAs}
+use Rattle.placing.specs.theorems.Answer.{NoneGood, firstGood-some, firstGood-none, first-found, none-found}
 use Rattle.placing.specs.code.Sites.{sitesOf}
 use Rattle.placing.specs.search.State.{Walked}
 use Rattle.placing.specs.search.Decided.{walk-solution, walk-none-before}
@@ -43,3 +46,20 @@ walked-choice h n xs ys true ways decided few walked =
     sym (first-found (decisions-first h n xs ys ways decided (omega (arith, walked .sizes .decided-size)) (walked .walked refl)))
 walked-choice h n xs ys false ways decided few walked =
     sym (none-found (λ cs good. walked .no-solution refl cs (good-solution h n xs ys cs good)))
+
+-- ---- what choosing at a side hands back
+
+module _ (h : ℕ) (ps : List Place) where
+  -- Where no good choice exists.
+  pub no-choice : NoneGood h ps → record { exists = false; corners = replicate mostSites 0 } ≡ choiceAs (firstGood h ps)
+  no-choice none-good = sym (ap choiceAs (none-found none-good))
+
+  -- Where the walk has led to one.
+  pub choice-found : {n : ℕ} (chosen : Chosen) {first : List ℕ} → length ps ≡ n → choiceIn n chosen ≡ firstGood h ps → chosen .ok ≡ true
+      → first ≡ take n (chosen .corners) ++ replicate (mostSites - n) 0 → record { exists = true; corners = first } ≡ choiceAs (firstGood h ps)
+  choice-found {n} chosen {first} count is ok held =
+      let made : firstGood h ps ≡ some (take n (chosen .corners)) = sym is ∙ ap (λ (b : Bool). whereYes b (take n (chosen .corners))) ok in
+      let size : length (take n (chosen .corners)) ≡ n = firstGood-some made .good .corners .one-each ∙ count in
+      ap {B = Choice} (λ (cs : List ℕ). record { exists = true; corners = cs })
+      (held ∙ ap (λ (k : ℕ). take n (chosen .corners) ++ replicate (mostSites - k) 0) (sym size))
+      ∙ sym (ap choiceAs made)

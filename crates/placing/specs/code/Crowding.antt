@@ -26,15 +26,19 @@ judgedFree = record { 0 = freeSide }
 abbrev pub reachAt : Crowding → ℕ → ℕ → ℕ
 reachAt crowding i c = getD (crowding .reaches) (wayOf i c) noReach .0
 
--- No judged side from this one on has a good choice.
-pub record NoneFrom (ps : List Place) (side : ℕ) : Type 0 where
-  pub none-good : (h : ℕ) → h ≤ freeSide → side ≤ h → (es : List ℕ) → Good h ps es → ⊥
+-- No side from this one up to `most` has a good choice.
+pub record NoneFrom (most : ℕ) (ps : List Place) (side : ℕ) : Type 0 where
+  pub none-good : (h : ℕ) → h ≤ most → side ≤ h → (es : List ℕ) → Good h ps es → ⊥
 
--- The array has the reaches of the first n sites for sides up to the top, above which no judged side has a good choice.
-pub record CrowdingIs (ps : List Place) (n : ℕ) (crowding : Crowding) : Type 0 where
-  pub judged : crowding .top .0 ≤ freeSide
+-- The array has the reaches of the first n sites for sides up to the top.
+pub record ReachesAre (ps : List Place) (n : ℕ) (crowding : Crowding) : Type 0 where
   pub at-corner : (i c : ℕ) → i < n → Corner c → ReachIs ps (crowding .top .0) i c (reachAt crowding i c)
-  pub none-above : NoneFrom ps (crowding .top .0 + 1)
+
+-- It has, and above the top no side up to `most` has a good choice.
+pub record CrowdingIs (most : ℕ) (ps : List Place) (n : ℕ) (crowding : Crowding) : Type 0 where
+  pub judged : crowding .top .0 ≤ most
+  pub reaches : ReachesAre ps n crowding
+  pub none-above : NoneFrom most ps (crowding .top .0 + 1)
 
 -- The furthest of the first e reaches of a site: none of them is further, and it is within what all are within.
 pub record FurthestOf (reaches : List HalfUnits) (e furthest : ℕ) : Type 0 where
@@ -70,12 +74,12 @@ pub record WithSite (crowding : Crowding) (k : ℕ) (reaches : List HalfUnits) (
   pub half : after .top .0 ≡ furthest / 2
 
 -- Above half the furthest all four corners of the site are crowded, and there is no good choice.
-none-beyond : {ps : List Place} {top furthest k : ℕ} {reaches : List HalfUnits} → k < length ps → SiteReaches ps top k reaches
-    → FurthestOf reaches 4 furthest → NoneFrom ps (top + 1) → NoneFrom ps (furthest / 2 + 1)
-none-beyond {ps} {top} {furthest} {k} listed site of-all none =
+none-beyond : {ps : List Place} {most top furthest k : ℕ} {reaches : List HalfUnits} → k < length ps → SiteReaches ps top k reaches
+    → FurthestOf reaches 4 furthest → NoneFrom most ps (top + 1) → NoneFrom most ps (furthest / 2 + 1)
+none-beyond {ps} {most} {top} {furthest} {k} listed site of-all none =
     record { none-good = λ h judged above es good. go h judged above es good (decLe h top) }
   where
-    go : (h : ℕ) → h ≤ freeSide → furthest / 2 + 1 ≤ h → (es : List ℕ) → Good h ps es → Dec (h ≤ top) → ⊥
+    go : (h : ℕ) → h ≤ most → furthest / 2 + 1 ≤ h → (es : List ℕ) → Good h ps es → Dec (h ≤ top) → ⊥
     go h judged above es good (yes inside) =
         let c = cornerAt es k in
         let corner = good .corners .corner k listed in
@@ -84,34 +88,34 @@ none-beyond {ps} {top} {furthest} {k} listed site of-all none =
     go h judged above es good (no outside) = none .none-good h judged (omega arith) es good
 
 -- The reaches of the sites below k, in an array of full size.
-pub record CrowdingBelow (ps : List Place) (k : ℕ) (crowding : Crowding) : Type 0 where
+pub record CrowdingBelow (most : ℕ) (ps : List Place) (k : ℕ) (crowding : Crowding) : Type 0 where
   pub size : length (crowding .reaches) ≡ 4 * mostSites
-  pub reaches : CrowdingIs ps k crowding
+  pub below : CrowdingIs most ps k crowding
 
--- Those of no sites, with the side at which free is judged for the top ..
-pub crowding-none : {ps : List Place} {crowding : Crowding} → length (crowding .reaches) ≡ 4 * mostSites → crowding .top .0 ≡ freeSide
-    → CrowdingBelow ps 0 crowding
-crowding-none size free =
+-- Those of no sites, with the greatest side for the top ..
+pub crowding-none : {most : ℕ} {ps : List Place} {crowding : Crowding} → length (crowding .reaches) ≡ 4 * mostSites → crowding .top .0 ≡ most
+    → CrowdingBelow most ps 0 crowding
+crowding-none size top-is =
     record {
       size = size;
-      reaches = record {
+      below = record {
         judged = omega arith;
-        at-corner = λ i c listed. absurd (omega arith);
+        reaches = record { at-corner = λ i c listed. absurd (omega arith) };
         none-above = record { none-good = λ h judged above. absurd (omega arith) };
       };
     }
 
 -- .. and of one site more.
-pub crowding-more : {ps : List Place} {k : ℕ} {crowding after : Crowding} {reaches : List HalfUnits} → k < length ps
-    → CrowdingBelow ps k crowding → SiteReaches ps (crowding .top .0) k reaches → ReachesWithin (2 * crowding .top .0) reaches
-    → WithSite crowding k reaches after → CrowdingBelow ps (k + 1) after
-crowding-more {ps} {k} {crowding} {after} {reaches} listed so-far site within with-site =
+pub crowding-more : {most : ℕ} {ps : List Place} {k : ℕ} {crowding after : Crowding} {reaches : List HalfUnits} → k < length ps
+    → CrowdingBelow most ps k crowding → SiteReaches ps (crowding .top .0) k reaches → ReachesWithin (2 * crowding .top .0) reaches
+    → WithSite crowding k reaches after → CrowdingBelow most ps (k + 1) after
+crowding-more {most} {ps} {k} {crowding} {after} {reaches} listed so-far site within with-site =
     record {
       size = with-site .written .size ∙ so-far .size;
-      reaches = record {
-        judged = le-trans lower (so-far .reaches .judged);
-        at-corner = λ i c there corner. lower-top (go i c there corner (ℕ-discrete i k));
-        none-above = rw (with-site .half) (none-beyond listed site (with-site .of-all) (so-far .reaches .none-above));
+      below = record {
+        judged = le-trans lower (so-far .below .judged);
+        reaches = record { at-corner = λ i c there corner. lower-top (go i c there corner (ℕ-discrete i k)) };
+        none-above = rw (with-site .half) (none-beyond listed site (with-site .of-all) (so-far .below .none-above));
       };
     }
   where
@@ -131,13 +135,14 @@ crowding-more {ps} {k} {crowding} {after} {reaches} listed so-far site within wi
         rw (last, own) (site .at-corner c corner)
     go i c there corner (no earlier) =
         let same : reachAt after i c ≡ reachAt crowding i c = ap halfUnits (filled-elsewhere (with-site .written) i c earlier corner) in
-        rw same (so-far .reaches .at-corner i c (omega arith) corner)
+        rw same (so-far .below .reaches .at-corner i c (omega arith) corner)
 
 -- With all sites written they are the list's.
-pub crowding-all : {ps : List Place} {n k : ℕ} {crowding : Crowding} → n ≤ k → CrowdingBelow ps k crowding → CrowdingIs ps n crowding
+pub crowding-all : {most : ℕ} {ps : List Place} {n k : ℕ} {crowding : Crowding} → n ≤ k → CrowdingBelow most ps k crowding
+    → CrowdingIs most ps n crowding
 crowding-all all so-far =
     record {
-      judged = so-far .reaches .judged;
-      at-corner = λ i c listed. so-far .reaches .at-corner i c (le-trans listed all);
-      none-above = so-far .reaches .none-above;
+      judged = so-far .below .judged;
+      reaches = record { at-corner = λ i c listed. so-far .below .reaches .at-corner i c (le-trans listed all) };
+      none-above = so-far .below .none-above;
     }

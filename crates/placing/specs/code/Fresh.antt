@@ -18,7 +18,7 @@ use Rattle.placing.specs.code.Sites.{sitesOf}
 use Rattle.placing.specs.code.Labels.{labels}
 use Rattle.placing.specs.code.Filled.{Filled, filled-front}
 use Rattle.placing.specs.code.Reach.{ReachIs, noReach}
-use Rattle.placing.specs.code.Crowding.{reachAt, CrowdingIs}
+use Rattle.placing.specs.code.Crowding.{reachAt, ReachesAre}
 use Rattle.placing.specs.code.Ways.{Sizes}
 
 -- The byte of a corner with this reach: 1 where the doubled side is within it.
@@ -34,7 +34,7 @@ OpenedBelow crowding side k ways =
 -- The state at a side before anything is decided, for every n sites that have these reaches.
 pub record FreshState (crowding : Crowding) (n : ℕ) (side : HalfUnits) (ways decided : List ℕ) : Type 0 where
   pub sizes : Sizes ways decided
-  pub fresh : (xs ys : List ℕ) → side .0 ≤ crowding .top .0 → CrowdingIs (sitesOf n xs ys) n crowding
+  pub fresh : (xs ys : List ℕ) → side .0 ≤ crowding .top .0 → ReachesAre (sitesOf n xs ys) n crowding
       → Fresh (labels (side .0) n xs ys) ways decided
 
 module _ {ps : List Place} {top side i c reach byte : ℕ} (inside : side ≤ top) (known : ReachIs ps top i c reach)

@@ -1,4 +1,4 @@
--- What finding the answer of a list of places asks.
+-- What finding the side of a list of places asks, and choosing at one.
 -- Assumes nothing.
 use mathlib.Core.Path.{_≡_, sym, ap, subst, _∙_}
 use mathlib.Core.List.{List}
@@ -7,13 +7,15 @@ use native.Mathlib.Nat.{mul-le-mul-right}
 use native.Mathlib.Omega.{arith}
 use lib.ListN.{length, take}
 use Rattle.placing.specs.declared.crowding.Crowding.{Crowding}
+use Rattle.placing.specs.declared.units.HalfUnits.{HalfUnits}
 use Rattle.placing.specs.declared.units.Place.{Place}
-use Rattle.placing.specs.rules.Units.{Distinct, siteAt, OnPlan}
+use Rattle.placing.specs.rules.Units.{freeSide, Distinct, siteAt, OnPlan}
 use Rattle.placing.specs.calls.Placing.{MayPlace}
-use Rattle.placing.specs.code.Sites.{Held, CoordinatesOf, siteIn, sitesOf, length-sites, site-at}
+use Rattle.placing.specs.code.Asks.{MayChooseAt}
+use Rattle.placing.specs.code.Sites.{Held, held-at, CoordinatesOf, siteIn, sitesOf, length-sites, site-at}
 use Rattle.placing.specs.code.Crowding.{judgedFree, CrowdingIs}
 
--- Finding the answer of n sites at these coordinates.
+-- Finding the side of n sites at these coordinates.
 pub record MayFind (n : ℕ) (xs ys : List ℕ) (marks : List ℕ) : Type 0 where
   pub held : Held n xs ys judgedFree
   pub distinct : Distinct (sitesOf n xs ys)
@@ -24,7 +26,11 @@ pub record MayBisect (n : ℕ) (xs ys : List ℕ) (crowding : Crowding) (marks :
   pub held : Held n xs ys judgedFree
   pub distinct : Distinct (sitesOf n xs ys)
   pub room : n ≤ length marks
-  pub crowding-is : CrowdingIs (sitesOf n xs ys) n crowding
+  pub crowding-is : CrowdingIs freeSide (sitesOf n xs ys) n crowding
+
+-- Finding asks all that choosing does.
+pub may-choose : {n : ℕ} {xs ys marks : List ℕ} → MayFind n xs ys marks → (side : HalfUnits) → side .0 ≤ freeSide → MayChooseAt n xs ys side marks
+may-choose may side judged = record { held = held-at side judged (may .held); room = may .room }
 
 -- The lists of coordinates of a list that may be placed.
 pub may-find : {n : ℕ} {sites : List Place} {xs ys table : List ℕ} → MayPlace n sites table → CoordinatesOf n sites xs ys

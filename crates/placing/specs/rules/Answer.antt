@@ -19,6 +19,11 @@ abbrev pub sideNumber : Side → Option ℕ
 sideNumber (Number side) = some (side .0)
 sideNumber Free = none
 
+-- Document 02, L1: "A given side is from 1 to 20,000, or free, which is judged at 20,001." The side at which a side is judged.
+abbrev pub judgedAt : Side → ℕ
+judgedAt (Number side) = side .0
+judgedAt Free = freeSide
+
 -- The answer of a side h, and the answer free.
 abbrev pub numbered : ℕ → List ℕ → Answer
 numbered h cs = record { side = Number (record { 0 = h }); corners = cs }

@@ -36,6 +36,11 @@ pub record Good (h : ℕ) (ps : List Place) (cs : List ℕ) : Type 0 where
   pub uncrowded : (i : ℕ) → i < length ps → Crowded h ps i (cornerAt cs i) → ⊥
   pub apart : MeetingPair h 1 ps cs → ⊥
 
+-- "A good choice exists" at h.
+pub record SomeGood (h : ℕ) (ps : List Place) : Type 0 where
+  pub choice : List ℕ
+  pub good : Good h ps choice
+
 -- The first list of corners comes before the second: it has the lower corner at the first site where they differ.
 pub data Before : List ℕ → List ℕ → Type 0 where
   lower : {c e : ℕ} {cs es : List ℕ} → c < e → Before (c ∷ cs) (e ∷ es)

@@ -10,8 +10,9 @@ use native.Mathlib.Decide.{decLt}
 use lib.Dec.{lit≤}
 use lib.ListN.{length}
 use Rattle.placing.specs.declared.units.Place.{Place}
+use Rattle.placing.specs.declared.units.Side.the-variants.{Number, Free}
 use Rattle.placing.specs.rules.Units.{Distinct, InRange, greatestSide, freeSide}
-use Rattle.placing.specs.rules.Choice.{Good, First}
+use Rattle.placing.specs.rules.Choice.{Good, SomeGood, First}
 use Rattle.placing.specs.rules.Answer.{Answer, numbered, free, IsAnswer, is-free, is-number}
 use Rattle.placing.specs.deciding.Decides.{holds-yes}
 use Rattle.placing.specs.deciding.Tests.{goodTest}
@@ -51,6 +52,14 @@ module _ {h : ℕ} {ps : List Place} where
   -- and where there is none it finds nothing.
   pub none-found : NoneGood h ps → firstGood h ps ≡ none
   none-found = finds-nothing (finds-first-good h ps)
+
+-- Where a good choice exists there is a first one.
+pub some-first : {h : ℕ} {ps : List Place} {A : Type 0} → SomeGood h ps → ((cs : List ℕ) → First h ps cs → A) → A
+some-first {h} {ps} {A} some-good next = by-found (finds-first-good h ps)
+  where
+    by-found : {o : Option (List ℕ)} → FirstWith (Good h ps) o → A
+    by-found (found {cs} good none-before) = next cs (record { good = good; none-before = none-before })
+    by-found (missing no-good) = absurd (no-good (some-good .choice) (some-good .good))
 
 -- Where h has no good choice no greater side has one.
 none-above : {h : ℕ} {ps : List Place} → NoneGood h ps → (k : ℕ) → h ≤ k → NoneGood k ps
@@ -112,6 +121,16 @@ answer-found places least most first none-next =
 -- A first good choice at 20,001 is the answer's.
 pub answer-free : {ps : List Place} {cs : List ℕ} → Distinct ps → First freeSide ps cs → answerOf ps ≡ free cs
 answer-free places first = sym (is-answer-of places (is-free first))
+
+-- So the answer's side is one that has a good choice while the next side has none,
+pub side-found : {ps : List Place} {h : ℕ} → Distinct ps → 1 ≤ h → h ≤ greatestSide → SomeGood h ps → NoneGood (suc h) ps
+    → answerOf ps .side ≡ Number (record { 0 = h })
+side-found places least most some-good none-next =
+    some-first some-good (λ cs first. ap (λ (a : Answer). a .side) (answer-found places least most first none-next))
+
+-- and free where one exists at 20,001.
+pub side-free : {ps : List Place} → Distinct ps → SomeGood freeSide ps → answerOf ps .side ≡ Free
+side-free places some-good = some-first some-good (λ cs first. ap (λ (a : Answer). a .side) (answer-free places first))
 
 module _ {ps : List Place} {h : ℕ} {cs : List ℕ} where
   -- The corners of a numbered answer are a good choice at its side,

@@ -17,7 +17,7 @@ walk-requires c κs =
       held = may .held;
       sizes = at-fresh .fresh-state .ensures .sizes;
       room = may .room;
-      walked = walk-starts (at-fresh .fresh-state .ensures .fresh _ _ (may .inside) (may .crowding-is));
+      walked = walk-starts (at-fresh .fresh-state .ensures .fresh _ _ (may .inside) (may .reaches));
     }
 
 same-length : tie.Need-same-length

@@ -1,5 +1,6 @@
 -- `crowding::crowding_of` meets its contract. The loop's invariant: the array has the reaches of the sites below `i`.
 -- Assumes nothing.
+use native.Mathlib.Nat.{le-trans}
 use native.Mathlib.Omega.{arith}
 use mathlib.Core.Path.{refl}
 use Prim.Native.Nat.{_≤_, _-_}
@@ -9,18 +10,20 @@ use Rattle.placing.proofs.crowding.crowding_of.Statement.{statement}
 use Rattle.placing.proofs.crowding.crowding_of.Tie as tie
 
 abbrev Inv-loop : tie.InvT-loop
-Inv-loop xs ys n crowding₀ i₀ crowding i = (i ≤ n) × CrowdingBelow (sitesOf n xs ys) i crowding
+Inv-loop xs ys n crowding₀ i₀ crowding i = (i ≤ n) × CrowdingBelow (crowding₀ .top .0) (sitesOf n xs ys) i crowding
 
 abbrev μ-loop : tie.MeasureT-loop
 μ-loop xs ys n crowding₀ i₀ crowding i = n - i
 
 loop-holds : tie.Need-loop-holds Inv-loop μ-loop
-loop-holds c = (omega arith, crowding-none refl (omega arith))
+loop-holds c = (omega arith, crowding-none refl refl)
 
 reaches-of-requires : tie.Need-reaches-of-requires Inv-loop μ-loop
 reaches-of-requires c κs =
-    let at-loop = c .before in
-    (held-at _ (at-loop .loop .inv .1 .reaches .judged) (at-loop .before .pre), c .loop-test .taken)
+    let at-loop = c .before in (
+      held-at _ (le-trans (at-loop .loop .inv .1 .below .judged) (at-loop .before .pre .judged)) (at-loop .before .pre),
+      c .loop-test .taken,
+    )
 
 with-site-requires : tie.Need-with-site-requires Inv-loop μ-loop
 with-site-requires c κs = (c .before .before .loop .inv .1 .size, omega arith)

@@ -1,11 +1,10 @@
 -- `placing::side::bisect` meets its contract: the lower end has a good choice and no judged side from the upper one
 -- on has, until nothing is left to try.
 -- Assumes nothing.
-use mathlib.Core.Path.{_∙_}
 use Prim.Native.Nat.{_-_}
 use native.Mathlib.Omega.{arith}
 use borrow.Author.Needs.{needs}
-use Rattle.placing.specs.code.Sites.{sitesOf, length-sites}
+use Rattle.placing.specs.code.Sites.{sitesOf}
 use Rattle.placing.specs.code.Ways.{Kept}
 use Rattle.placing.specs.code.Marks.{kept-same, kept-twice}
 use Rattle.placing.specs.code.Bisect.{BetweenIs, between-starts, between-ends}
@@ -14,18 +13,18 @@ use Rattle.placing.proofs.side.bisect.Tie as tie
 
 abbrev Inv-loop : tie.InvT-loop
 Inv-loop xs ys n crowding marks₀ between₀ marks between =
-    Kept n marks₀ marks × BetweenIs (sitesOf n xs ys) n (crowding .top .0) between
+    Kept n marks₀ marks × BetweenIs (sitesOf n xs ys) (crowding .top .0) between
 
 abbrev μ-loop : tie.MeasureT-loop
 μ-loop xs ys n crowding marks₀ between₀ marks between = between .high .0 - between .low .0
 
-add-t11 : tie.Need-add-t11 Inv-loop μ-loop
-add-t11 c = search needs
+add-t9 : tie.Need-add-t9 Inv-loop μ-loop
+add-t9 c = search needs
 
 loop-holds : tie.Need-loop-holds Inv-loop μ-loop
 loop-holds c =
     let may = c .before .before .before .pre in
-    (kept-same, between-starts _ (may .distinct) (length-sites _ _ _) (may .held .few) (may .crowding-is .none-above))
+    (kept-same, between-starts _ (may .distinct) (may .crowding-is .none-above))
 
 below-requires : tie.Need-below-requires Inv-loop μ-loop
 below-requires c κs = search needs
@@ -52,9 +51,6 @@ loop-again c =
     let at-loop = at-narrow .before .before .before .before in
     (kept-twice (at-loop .loop .inv .0) (at-narrow .narrow .ensures .1), at-narrow .narrow .ensures .0 .between-is)
 
-first-corners-requires : tie.Need-first-corners-requires Inv-loop μ-loop
-first-corners-requires c κs = search needs
-
 side-of-requires : tie.Need-side-of-requires Inv-loop μ-loop
 side-of-requires c κs = search needs
 
@@ -63,13 +59,11 @@ same-length c = search needs
 
 returns : tie.Need-returns Inv-loop μ-loop
 returns c =
-    let at-end = c .before .before .before in
+    let at-end = c .before in
     let at-loop = at-end .before .before in
     let may = at-loop .before .before .before .before .pre in
     let last = at-end .before .below .ensures .no-fails (at-end .if1 .left) in (
-      (λ k. record { side = c .side-of .result; corners = c .before .first-corners .ensures k })
-          ∙ between-ends (may .crowding-is .judged) (may .distinct) (length-sites _ _ _) (at-loop .loop .inv .1) (omega arith)
-          (c .side-of .ensures),
+      between-ends (may .crowding-is .judged) (may .distinct) (at-loop .loop .inv .1) (omega arith) (c .side-of .ensures),
       at-loop .loop .inv .0,
     )
 
@@ -79,13 +73,12 @@ bisect-spec =
     (tie.spec
     Inv-loop
     μ-loop
-    add-t11
+    add-t9
     loop-holds
     below-requires
     narrow-requires
     loop-less
     loop-again
-    first-corners-requires
     side-of-requires
     same-length
     returns)

@@ -19,7 +19,7 @@ choose-requires c κs =
     record {
       held = held-at _ (le-trans inside (may .crowding-is .judged)) (may .held);
       room = may .room;
-      crowding-is = may .crowding-is;
+      reaches = may .crowding-is .reaches;
       inside = inside;
     }
 
@@ -31,10 +31,11 @@ same-length c = search needs
 
 returns : tie.Need-returns
 returns c =
-    let at-choose = c .before .before .before .before .before in
-    let may = at-choose .before .before .before .before .before .before .pre in (
-      narrowed-up (may .between-is) (may .left) (at-choose .choose .result) (at-choose .choose .ensures .0) (c .middle .result)
-          (c .before .before .if1 .taken) (c .middle .ensures),
+    let at-choose = c .before .before .before .before in
+    let start = at-choose .before .before .before .before .before .before in
+    let may = start .pre in (
+      narrowed-up (start .args .n) (may .between-is) (may .left) (at-choose .choose .result) (at-choose .choose .ensures .0) (c .middle .result)
+          (c .before .if1 .taken) (c .middle .ensures),
       at-choose .choose .ensures .1,
     )
 
@@ -46,10 +47,11 @@ same-length-2 c = search needs
 
 returns-2 : tie.Need-returns-2
 returns-2 c =
-    let at-choose = c .before .before .before .before .before in
-    let may = at-choose .before .before .before .before .before .before .pre in (
-      narrowed-down (may .between-is) (may .left) (at-choose .choose .result) (at-choose .choose .ensures .0) (c .middle2 .result)
-          (c .before .before .if1 .left) (c .middle2 .ensures),
+    let at-choose = c .before .before .before .before in
+    let start = at-choose .before .before .before .before .before .before in
+    let may = start .pre in (
+      narrowed-down (start .args .n) (may .between-is) (may .left) (at-choose .choose .result) (at-choose .choose .ensures .0) (c .middle2 .result)
+          (c .before .if1 .left) (c .middle2 .ensures),
       at-choose .choose .ensures .1,
     )
 

@@ -1,4 +1,4 @@
--- `placing::place::place_labels` meets its contract: the answer at the coordinates, and the cleared table.
+-- `placing::place::find_side` meets its contract: the side at the coordinates, and the cleared table.
 -- Assumes nothing.
 use mathlib.Core.Path.{_∙_, ap}
 use mathlib.Core.List.{List, _++_}
@@ -6,22 +6,19 @@ use Prim.Native.Nat.{ℕ, _*_, _≤_}
 use native.Mathlib.Nat.{mul-le-mul-right}
 use native.Mathlib.Omega.{arith}
 use lib.ListN.{replicate}
-use Rattle.placing.specs.declared.side.Placed.{Placed}
 use Rattle.placing.specs.declared.units.Place.{Place}
-use Rattle.placing.specs.rules.Answer.{sideNumber}
 use Rattle.placing.specs.deciding.Answer.{answerOf}
 use Rattle.placing.specs.code.Marks.{kept-further}
-use Rattle.placing.specs.calls.Placing.{placedAs}
 use Rattle.placing.specs.code.Placed.{may-find}
 use borrow.Author.Needs.{needs}
-use Rattle.placing.proofs.place.place_labels.Statement.{statement}
-use Rattle.placing.proofs.place.place_labels.Tie as tie
+use Rattle.placing.proofs.place.find_side.Statement.{statement}
+use Rattle.placing.proofs.place.find_side.Tie as tie
 
 coordinates-of-requires : tie.Need-coordinates-of-requires
 coordinates-of-requires c κs = search needs
 
-find-answer-requires : tie.Need-find-answer-requires
-find-answer-requires c κs =
+greatest-side-requires : tie.Need-greatest-side-requires
+greatest-side-requires c κs =
     let at-coordinates = c .before .before .before .before .before in
     may-find (at-coordinates .before .before .pre) (at-coordinates .coordinates-of .ensures)
 
@@ -41,24 +38,19 @@ returns c =
     let at-start-coordinates = at-find .before .before .before .before .before .before in
     let at-start = at-start-coordinates .before .before in
     let n = at-start .args .n in
-    let wide : 1 * n ≤ n * n = mul-le-mul-right n (at-start .pre .some-sites) in
-    let answer =
-    at-find .find-answer .ensures .0
-    ∙ ap (λ (l : List Place). placedAs (answerOf l)) (at-start-coordinates .coordinates-of .ensures .same-sites) in (
-      answer,
-      (
-        ap (λ (r : Placed). sideNumber (r .side)) answer,
-        at-clear .clear .ensures
-            ∙ ap (λ (l : List ℕ). replicate (n * n) 0 ++ l) (kept-further (n * n) (omega arith) (at-find .find-answer .ensures .1)),
-      ),
+    let wide : 1 * n ≤ n * n = mul-le-mul-right n (at-start .pre .some-sites) in (
+      at-find .greatest-side .ensures .0
+          ∙ ap (λ (l : List Place). answerOf l .side) (at-start-coordinates .coordinates-of .ensures .same-sites),
+      at-clear .clear .ensures
+          ∙ ap (λ (l : List ℕ). replicate (n * n) 0 ++ l) (kept-further (n * n) (omega arith) (at-find .greatest-side .ensures .1)),
     )
 
-pub place-labels-spec : {M : Type 1} → statement M
-place-labels-spec =
+pub find-side-spec : {M : Type 1} → statement M
+find-side-spec =
     tie.close
     (tie.spec
     coordinates-of-requires
-    find-answer-requires
+    greatest-side-requires
     mul-clear
     clear-requires
     same-length

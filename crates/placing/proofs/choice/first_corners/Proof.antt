@@ -1,4 +1,4 @@
--- `placing::side::first_corners` meets its contract: the corners so far, then zeros.
+-- `placing::choice::first_corners` meets its contract: the corners so far, then zeros.
 -- Assumes nothing.
 use mathlib.Core.Path.{_≡_, refl, ap, _∙_}
 use mathlib.Core.List.{List}
@@ -8,8 +8,8 @@ use lib.ListN.{length, getD, set, length-set}
 use borrow.Author.Needs.{needs}
 use Rattle.placing.specs.rules.Units.{mostSites}
 use Rattle.placing.proofs.Copied.{copied, copied-more, zeros, length-zeros, drop-zeros}
-use Rattle.placing.proofs.side.first_corners.Statement.{statement}
-use Rattle.placing.proofs.side.first_corners.Tie as tie
+use Rattle.placing.proofs.choice.first_corners.Statement.{statement}
+use Rattle.placing.proofs.choice.first_corners.Tie as tie
 
 abbrev Inv-loop : tie.InvT-loop
 Inv-loop n corners first₀ i₀ first i = (i ≤ n) × (first ≡ copied i corners zeros) × (length first ≡ mostSites)

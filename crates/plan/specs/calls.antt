@@ -2,3 +2,4 @@
 pub mod Lengths
 pub mod Plan
 pub mod Answers
+pub mod Given

@@ -1,6 +1,7 @@
 -- What the functions inside ask and promise, and the laws that their proofs cite.
 pub mod NameRead
 pub mod NameLaws
+pub mod NumberRead
 pub mod Coordinate
 pub mod NumberLaws
 pub mod Line

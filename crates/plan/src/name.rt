@@ -96,19 +96,30 @@ pub(crate) fn name_from(text: &[u8]) -> NameRead
     NameRead { ok: true, name }
 }
 
+// Whether two texts have the same bytes.
+pub(crate) fn same_bytes(a: &[u8], b: &[u8]) -> bool
+    ensures { λ r. ⌜ r ≡ sameBytes (now (a .entry)) (now (b .entry)) ⌝ }
+{
+    let n = a.len();
+    if n != b.len() {
+        return false;
+    }
+    for i in 0..n {
+        if a[i] != b[i] {
+            return false;
+        }
+    }
+    true
+}
+
 // Whether two names are the same.
 pub(crate) fn same_name(a: Name, b: Name) -> bool
     requires { ⌜ (a .len ≤ mostNameBytes) × (b .len ≤ mostNameBytes) ⌝ }
     ensures { λ r. ⌜ r ≡ sameBytes (nameHeld a) (nameHeld b) ⌝ }
 {
     let n = a.len;
-    if n != b.len {
-        return false;
-    }
-    for i in 0..n {
-        if a.bytes[i] != b.bytes[i] {
-            return false;
-        }
-    }
-    true
+    let m = b.len;
+    let a_bytes = a.bytes;
+    let b_bytes = b.bytes;
+    same_bytes(&a_bytes[..n], &b_bytes[..m])
 }

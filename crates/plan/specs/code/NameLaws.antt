@@ -1,4 +1,4 @@
--- Reading a name byte by byte, and comparing two names byte by byte.
+-- Reading a name byte by byte, and comparing two texts byte by byte.
 -- Assumes nothing.
 use mathlib.Core.Bool.{Bool, true, false, _&&_, and-false, or-false}
 use mathlib.Core.List.{List, [], _∷_, _++_}
@@ -10,7 +10,7 @@ use native.Mathlib.Numerals.{add-one}
 use native.Mathlib.Omega.{arith}
 use lib.Dec.{eqb, leb}
 use lib.ListN.{length, getD, take, drop, replicate, length-replicate, drop-of-length-le}
-use lib.Seq.{drop-cons, take-length, slice-cons, slice-empty}
+use lib.Seq.{drop-cons, take-length}
 use borrow.Author.Tests.{le-leb, lt-leb, ne-eqb}
 use Rattle.plan.specs.declared.name.NameRead.{NameRead}
 use Rattle.plan.specs.rules.Text.{isNameByte, allNameBytes, isName, sameBytes, mostNameBytes}
@@ -83,7 +83,7 @@ name-read text is put =
     ap (λ (b : List ℕ). record { ok = true; name = record { bytes = b; len = length text } }) (over-zeros text (name-short text is) put)
     ∙ sym (ap (λ (ok : Bool). record { ok = ok; name = nameWhere ok text }) is)
 
--- The names are of different lengths.
+-- Two texts are of different lengths.
 pub lengths-differ : (a b : List ℕ) → length a ≢ length b → sameBytes a b ≡ false
 unfolding sameBytes
 lengths-differ [] [] h = absurd (h refl)
@@ -91,13 +91,13 @@ lengths-differ [] (c ∷ other) h = refl
 lengths-differ (b ∷ bytes) [] h = refl
 lengths-differ (b ∷ bytes) (c ∷ other) h = rw (lengths-differ bytes other (λ e. h (ap suc e))) (and-false (eqb b c))
 
--- Two names of n bytes are the same from i on if bytes i are and those after them are.
-pub same-from : (n : ℕ) (a b : List ℕ) (i : ℕ) {is : Bool} → i < n → n ≤ length a → n ≤ length b → eqb (getD a i 0) (getD b i 0) ≡ is
-    → sameBytes (drop i (take n a)) (drop i (take n b)) ≡ (is && sameBytes (drop (i + 1) (take n a)) (drop (i + 1) (take n b)))
+-- They are the same from i on if bytes i are and those after them are.
+pub same-from : (a b : List ℕ) (i : ℕ) {is : Bool} → i < length a → i < length b → eqb (getD a i 0) (getD b i 0) ≡ is
+    → sameBytes (drop i a) (drop i b) ≡ (is && sameBytes (drop (i + 1) a) (drop (i + 1) b))
 unfolding sameBytes
-same-from n a b i within long-a long-b e = rw (add-one, slice-cons i n a 0, slice-cons i n b 0, ← e)
+same-from a b i within-a within-b e = rw (add-one, drop-cons a i 0, drop-cons b i 0, ← e)
 
 -- No byte of the two is left.
-pub same-end : (n : ℕ) (a b : List ℕ) → sameBytes (drop n (take n a)) (drop n (take n b)) ≡ true
+pub same-end : (a b : List ℕ) (i : ℕ) → length a ≤ i → length b ≤ i → sameBytes (drop i a) (drop i b) ≡ true
 unfolding sameBytes
-same-end n a b = rw (slice-empty n a, slice-empty n b)
+same-end a b i past-a past-b = rw (drop-of-length-le a past-a, drop-of-length-le b past-b)

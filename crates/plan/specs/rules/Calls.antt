@@ -1,17 +1,24 @@
 -- Document 01, "Calls on a plan": the tables of placing, asking and writing, the value where a call is accepted, and the lent bytes
 -- afterwards. Entering and reading stand in `List`; what start and count hand back, and which plans the calls hand back, in `calls/`.
 -- Assumes nothing.
-use mathlib.Core.Bool.{Bool, not}
+use mathlib.Core.Bool.{Bool, true, not, _&&_}
 use mathlib.Core.List.{List, [], _∷_, _++_}
 use Prim.Native.Nat.{ℕ, _*_}
 use lib.Dec.{leb, ltb, eqb}
 use lib.ListN.{length, drop, replicate}
 use Rattle.placing.specs.declared.units.Side.{Side}
+use Rattle.placing.specs.declared.units.Side.the-variants.{Number, Free}
+use Rattle.placing.specs.rules.Units.{greatestSide}
 use Rattle.placing.specs.rules.Choice.{cornerAt}
 use Rattle.placing.specs.rules.Answer.{Answer}
 use Rattle.plan.specs.declared.refusal.Refusal.the-variants.{NoSuchSite, NoSites, NotPlaced, ShortBuffer, ShortTable}
 use Rattle.plan.specs.rules.Refusal.{Test, _gives_, Result, accepted, refused, afterTests}
 use Rattle.plan.specs.rules.List.{Site}
+
+-- Document 02, L1: "A given side is from 1 to 20,000, or free."
+abbrev pub isSide : Side → Bool
+isSide (Number side) = leb 1 (side .0) && leb (side .0) greatestSide
+isSide Free = true
 
 -- "Placing a plan of no sites": n is the count.
 abbrev pub noSites : ℕ → Test

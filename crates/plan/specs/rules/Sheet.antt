@@ -2,7 +2,7 @@
 -- Assumes nothing.
 use mathlib.Core.Bool.{true, false, _&&_}
 use mathlib.Core.List.{List, [], _∷_, _++_}
-use mathlib.Core.Option.{Option, none}
+use mathlib.Core.Option.{Option, some, none}
 use Prim.Native.Nat.{ℕ}
 use lib.Dec.{eqb}
 use lib.ListN.{length, getD, drop}
@@ -26,6 +26,15 @@ freeWord = 102 ∷ 114 ∷ 101 ∷ 101 ∷ []
 abbrev pub sideText : Side → List ℕ
 sideText (Number side) = decimal (side .0)
 sideText Free = freeWord
+
+-- The side of a number that is read.
+abbrev pub numberedSide : Option ℕ → Option Side
+numberedSide none = none
+numberedSide (some h) = some (Number (record { 0 = h }))
+
+-- A side as it is written: the word free, or a number.
+abbrev pub sideIn : List ℕ → Option Side
+sideIn text = elim (sameBytes text freeWord) [ true ↦ some Free | false ↦ numberedSide (numberIn text) ]
 
 -- "First the word side, a tab, and a side."
 abbrev pub sideLine : Side → List ℕ

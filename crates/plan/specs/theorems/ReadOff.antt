@@ -1,13 +1,15 @@
 -- What is read off a sheet is what was written on it: demand 2's list, demand 3's number and spots, and demand 3 itself.
 -- Assumes nothing.
+use mathlib.Core.Bool.{Bool, true, false}
 use mathlib.Core.Path.{_≡_, refl, sym, ap, _∙_, subst}
 use mathlib.Core.List.{List, [], _∷_, _++_, append-assoc}
-use mathlib.Core.Option.{some}
+use mathlib.Core.Option.{some, Option·none-ne-some}
 use Prim.Native.Nat.{ℕ, _*_, _≤_, _<_}
 use native.Mathlib.Omega.{arith}
 use lib.ListN.{length, getD, drop}
 use Rattle.placing.specs.declared.units.Place.{Place}
 use Rattle.placing.specs.declared.units.Side.{Side}
+use Rattle.placing.specs.declared.units.Side.the-variants.{Number, Free}
 use Rattle.placing.specs.rules.Units.{along, X, Y}
 use Rattle.placing.specs.rules.Choice.{Corners, MeetingPair}
 use Rattle.placing.specs.rules.Answer.{Answer, sideNumber, IsAnswer, is-free, is-number}
@@ -16,10 +18,10 @@ use Rattle.placing.specs.theorems.Answer.{answer-is}
 use Rattle.placing.specs.theorems.FactorTwo.{answer-twice}
 use Rattle.plan.specs.rules.Text.{tab, fieldsOf, Without, numberIn, digitsAfter, decimal, sameBytes}
 use Rattle.plan.specs.rules.List.{Site, placesOf, wantedIn, Listed, ByRules, listLine, listText}
-use Rattle.plan.specs.rules.Sheet.{sideWord, sideText, sideLine, siteLine, numberOnFields, numberOn, spotsOnLines, spotsOn, carriedLines, carried, joined, butLast}
+use Rattle.plan.specs.rules.Sheet.{sideWord, freeWord, sideText, numberedSide, sideIn, sideLine, siteLine, numberOnFields, numberOn, spotsOnLines, spotsOn, carriedLines, carried, joined, butLast}
 use Rattle.plan.specs.deciding.Output.{sheetOf, outputOf}
 use Rattle.plan.specs.Demands.{NoRival}
-use Rattle.plan.specs.theorems.Text.{parted-one, parted-more, number-decimal, decimal-without, name-without}
+use Rattle.plan.specs.theorems.Text.{parted-one, parted-more, same-bytes-same, same-bytes-refl, number-decimal, decimal-without, name-without}
 use Rattle.plan.specs.theorems.Reading.{list-read}
 use Rattle.plan.specs.theorems.Sheet.{lineOfEach, Lined, no-line, one-more, answer-lined, side-without, sheet-lines, output-sheet}
 
@@ -81,7 +83,19 @@ sheet-again sites listed nonempty =
 
 -- ---- the number and the spots
 
--- An answer's side is read as it was written: the word free is no number.
+-- A side is read as it was written: digits are no word free.
+pub side-in-text : (side : Side) → sideIn (sideText side) ≡ some side
+unfolding numberIn digitsAfter
+side-in-text (Number side) = by-test (sameBytes (decimal (side .0)) freeWord) refl
+  where
+    by-test : (t : Bool) → sameBytes (decimal (side .0)) freeWord ≡ t
+        → elim t [ true ↦ some Free | false ↦ numberedSide (numberIn (decimal (side .0))) ] ≡ some (Number side)
+    by-test true is =
+        absurd (Option·none-ne-some (side .0) (sym (ap numberIn (same-bytes-same _ _ is)) ∙ number-decimal (side .0)))
+    by-test false is = ap numberedSide (number-decimal (side .0))
+side-in-text Free = rw (same-bytes-refl freeWord, sideIn)
+
+-- An answer's side is read as a number where it is one: the word free is none.
 side-read : {ps : List Place} {a : Answer} → IsAnswer ps a → numberIn (sideText (a .side)) ≡ sideNumber (a .side)
 unfolding numberIn digitsAfter
 side-read (is-free first) = refl

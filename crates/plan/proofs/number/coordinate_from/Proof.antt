@@ -1,38 +1,30 @@
--- `coordinate_from` reads a coordinate: a text that is not empty and has no leading zero writes the number of its digits.
--- Assumes nothing.
-use mathlib.Core.Logic.{⊎-elim}
-use mathlib.Core.Path.{_≡_, sym, ap, _∙_}
-use native.Mathlib.Omega.{arith}
-use Rattle.plan.specs.rules.Text.{digitsAfter, numberIn}
-use Rattle.plan.specs.code.NumberLaws.{empty-number, leading-zero, number-digits}
-use Rattle.plan.specs.code.Coordinate.{coordinateRead}
+-- `coordinate_from` reads a coordinate: a number up to the greatest one. Assumes nothing.
+use mathlib.Core.Path.{sym, _∙_}
 use borrow.Author.Needs.{needs}
+use Rattle.plan.specs.rules.Text.{numberIn}
+use Rattle.plan.specs.code.NumberLaws.{number-coordinate}
 use Rattle.plan.proofs.number.coordinate_from.Statement.{statement}
 use Rattle.plan.proofs.number.coordinate_from.Tie as tie
 
+number-from-requires : tie.Need-number-from-requires
+number-from-requires c κs = search needs
+
+enum-known-n : tie.Need-enum-known-n
+enum-known-n c = search needs
+
+enum-told : tie.Need-enum-told
+enum-told c = search needs
+
 returns : tie.Need-returns
 returns c =
-    let text = c .before .before .args .text .now in
-    sym (ap coordinateRead (empty-number text (c .if1 .taken)))
-
-shared-slice-read-if3 : tie.Need-shared-slice-read-if3
-shared-slice-read-if3 c = search needs
+    let call = c .before .before in
+    number-coordinate (numberIn (call .before .before .args .text .now)) (sym (c .enum-told .given .1) ∙ call .number-from .ensures)
 
 returns-2 : tie.Need-returns-2
 returns-2 c =
-    let text = c .before .before .before .before .before .args .text .now in
-    sym (ap coordinateRead (leading-zero text (c .before .before .if2 .taken) (c .if3 .taken)))
-
-digits-from-requires : tie.Need-digits-from-requires
-digits-from-requires c κs = search needs
-
-returns-3 : tie.Need-returns-3
-returns-3 c =
-    let text = c .before .before .before .before .args .text .now in
-    let number : numberIn text ≡ digitsAfter 0 text =
-    number-digits text (omega arith) (λ long. ⊎-elim (λ w. w .2 .left) (λ w. absurd (omega arith)) (c .before .if2 .came)) in
-    c .digits-from .ensures ∙ sym (ap coordinateRead number)
+    let call = c .before .before .before in
+    number-coordinate (numberIn (call .before .before .args .text .now)) (sym (c .before .n .given .1) ∙ call .number-from .ensures)
 
 pub coordinate-from-spec : {M : Type 1} → statement M
 coordinate-from-spec =
-    tie.close (tie.spec returns shared-slice-read-if3 returns-2 digits-from-requires returns-3)
+    tie.close (tie.spec number-from-requires enum-known-n enum-told returns returns-2)

@@ -5,21 +5,19 @@ use Prim.Native.Nat.{_-_, _≤_}
 use native.Mathlib.Omega.{arith}
 use lib.ListN.{length, drop}
 use borrow.Author.Needs.{needs}
-use borrow.Author.Tests.{le-leb}
-use Rattle.placing.specs.rules.Units.{greatestCoordinate}
 use Rattle.plan.specs.rules.Text.{digitsAfter}
-use Rattle.plan.specs.code.Coordinate.{coordinateRead}
-use Rattle.plan.specs.code.NumberLaws.{at-fits, byte-at, end-at}
+use Rattle.plan.specs.code.NumberRead.{numberRead}
+use Rattle.plan.specs.code.NumberLaws.{number-fits, number-in, byte-at, end-at}
 use Rattle.plan.proofs.number.digits_from.Statement.{statement}
 use Rattle.plan.proofs.number.digits_from.Tie as tie
 
 abbrev Inv-loop : tie.InvT-loop
-Inv-loop text value₀ i₀ i-end value i =
-    (i-end ≡ length text) × (i ≤ i-end) × (value ≤ greatestCoordinate)
-    × (coordinateRead (digitsAfter 0 text) ≡ coordinateRead (digitsAfter value (drop i text)))
+Inv-loop text most value₀ i₀ i-end value i =
+    (i-end ≡ length text) × (i ≤ i-end) × (value ≤ most)
+    × (numberRead most (digitsAfter 0 text) ≡ numberRead most (digitsAfter value (drop i text)))
 
 abbrev μ-loop : tie.MeasureT-loop
-μ-loop text value₀ i₀ i-end value i = i-end - i
+μ-loop text most value₀ i₀ i-end value i = i-end - i
 
 loop-holds : tie.Need-loop-holds Inv-loop μ-loop
 loop-holds c = (refl, search needs, search needs, refl)
@@ -28,7 +26,7 @@ shared-slice-read-with-digit : tie.Need-shared-slice-read-with-digit Inv-loop μ
 shared-slice-read-with-digit c = omega arith
 
 with-digit-requires : tie.Need-with-digit-requires Inv-loop μ-loop
-with-digit-requires c κs = omega arith
+with-digit-requires c κs = search needs
 
 enum-known-more : tie.Need-enum-known-more Inv-loop μ-loop
 enum-known-more c = search needs
@@ -40,7 +38,7 @@ returns : tie.Need-returns Inv-loop μ-loop
 returns c =
     let call = c .before .before in
     let at-loop = call .before .before .before in
-    sym (at-loop .loop .inv .3 ∙ byte-at _ _ (at-loop .loop .i) (omega arith) (sym (call .with-digit .ensures) ∙ c .enum-told .given .1))
+    sym (at-loop .loop .inv .3 ∙ byte-at _ _ _ (at-loop .loop .i) (omega arith) (sym (call .with-digit .ensures) ∙ c .enum-told .given .1))
 
 add-i : tie.Need-add-i Inv-loop μ-loop
 add-i c = omega arith
@@ -54,15 +52,16 @@ loop-again c =
     let call = told .before .before in
     let at-loop = call .before .before .before in
     let read = sym (call .with-digit .ensures) ∙ told .more .given .1 in
-    let on = at-loop .loop .inv .3 ∙ byte-at _ _ (at-loop .loop .i) (omega arith) read in
-    (refl, omega arith, at-fits (digitsAfter (at-loop .loop .value) _) read, on)
+    let on = at-loop .loop .inv .3 ∙ byte-at _ _ _ (at-loop .loop .i) (omega arith) read in
+    (refl, omega arith, number-fits _ (digitsAfter (at-loop .loop .value) _) read, on)
 
 returns-2 : tie.Need-returns-2 Inv-loop μ-loop
 returns-2 c =
     let at-loop = c .before in
+    let args = at-loop .before .before .args in
     let value = at-loop .loop .value in
-    let all = end-at value (at-loop .before .before .args .text .now) (at-loop .loop .i) (omega arith) in
-    sym (at-loop .loop .inv .3 ∙ ap coordinateRead all ∙ rw (le-leb value greatestCoordinate (at-loop .loop .inv .2), coordinateRead))
+    let all = end-at value (args .text .now) (at-loop .loop .i) (omega arith) in
+    sym (at-loop .loop .inv .3 ∙ ap (numberRead (args .most)) all ∙ number-in (args .most) value (at-loop .loop .inv .2))
 
 pub digits-from-spec : {M : Type 1} → statement M
 digits-from-spec =

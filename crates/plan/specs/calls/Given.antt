@@ -1,0 +1,12 @@
+-- A side that is given as a word.
+-- Assumes nothing.
+use mathlib.Core.Bool.{true, false}
+use mathlib.Core.Option.{Option, some, none}
+use Rattle.placing.specs.declared.units.Side.{Side}
+use Rattle.placing.specs.declared.units.Side.the-variants.{Number}
+use Rattle.plan.specs.rules.Calls.{isSide}
+
+-- A word that is no side in range gives the number 0, which every call refuses with 3.
+abbrev pub sideGivenBy : Option Side → Side
+sideGivenBy none = Number (record { 0 = 0 })
+sideGivenBy (some side) = elim (isSide side) [ true ↦ side | false ↦ Number (record { 0 = 0 }) ]

@@ -19,7 +19,7 @@ ghost use Rattle.placing.specs.deciding.Decides.{Decides};
 ghost use Rattle.placing.specs.code.Sites.{HasPlace, Judged};
 ghost use Rattle.placing.specs.code.Ways.{Sizes, oneMore, LeftIs, TakenCorner, ClosedCorner, Clash, CarriedThere, CarriedOut};
 ghost use Rattle.placing.specs.code.Ways.{Waits, FirstWaiting, Kept, markOf, Marked, CarriedOn, Tried};
-ghost use Rattle.placing.specs.code.Asks.{MayCarryTo, MayCarryOut, MayCarryOn, MayTry};
+ghost use Rattle.placing.specs.code.Asks.{MayCarryTo, MayCarryOut, MayLook, MayCarryOn, MayTry};
 
 // Which corners of a site are open: nothing, one, or more.
 pub(crate) enum Left {
@@ -120,7 +120,8 @@ fn carry_to(
     true
 }
 
-// Carries the decision of site `k` to all others. No where one is left with no corner.
+// Carries the decision of site `k` to all others. No where one is left with no corner. It closes no corner of a site below
+// `from`.
 fn carry_out(
     xs: &[u32; Limits::SITES],
     ys: &[u32; Limits::SITES],
@@ -129,13 +130,14 @@ fn carry_out(
     ways: &mut [u8; Limits::WAYS],
     decided: &mut [u8; Limits::SITES],
     k: usize,
+    from: usize,
 ) -> bool
-    requires { ⌜ MayCarryOut n (now xs) (now ys) side (now ways) (now decided) k ⌝ }
+    requires { ⌜ MayCarryOut n (now xs) (now ys) side (now ways) (now decided) k from ⌝ }
     ensures { λ r. ⌜ CarriedOut (labels (side .0) n (now (xs .entry)) (now (ys .entry)))
         (now (ways .entry)) (now (decided .entry)) k r (now (ways .exit)) (now (decided .exit)) ⌝ }
 {
     let c = decided[k];
-    for j in 0..n {
+    for j in from..n {
         if !carry_to(xs, ys, side, ways, decided, k, c, j) {
             return false;
         }
@@ -154,12 +156,12 @@ fn waits(decided: &[u8; Limits::SITES], marks: &[u8], k: usize) -> bool
     decided[k] != 0
 }
 
-// The first site that waits, or `n`.
-fn first_waiting(decided: &[u8; Limits::SITES], marks: &[u8], n: usize) -> usize
-    requires { ⌜ (length (now decided) ≡ mostSites) × (n ≤ mostSites) × (n ≤ length (now marks)) ⌝ }
+// The first site that waits, or `n`. Below `from` none waits.
+fn first_waiting(decided: &[u8; Limits::SITES], marks: &[u8], from: usize, n: usize) -> usize
+    requires { ⌜ MayLook (now decided) (now marks) from n ⌝ }
     ensures { λ r. ⌜ FirstWaiting (now (decided .entry)) (now (marks .entry)) n r ⌝ }
 {
-    for k in 0..n {
+    for k in from..n {
         if waits(decided, marks, k) {
             return k;
         }
@@ -177,17 +179,19 @@ fn mark_and_carry(
     decided: &mut [u8; Limits::SITES],
     marks: &mut [u8],
     k: usize,
+    from: usize,
 ) -> bool
-    requires { ⌜ MayCarryOut n (now xs) (now ys) side (now ways) (now decided) k × (n ≤ length (now marks)) ⌝ }
+    requires { ⌜ MayCarryOut n (now xs) (now ys) side (now ways) (now decided) k from × (n ≤ length (now marks)) ⌝ }
     ensures carried { λ r. ⌜ CarriedOut (labels (side .0) n (now (xs .entry)) (now (ys .entry)))
         (now (ways .entry)) (now (decided .entry)) k r (now (ways .exit)) (now (decided .exit)) ⌝ }
     ensures marked { λ r. ⌜ now (marks .exit) ≡ set (now (marks .entry)) k 1 ⌝ }
 {
     marks[k] = 1;
-    carry_out(xs, ys, n, side, ways, decided, k)
+    carry_out(xs, ys, n, side, ways, decided, k, from)
 }
 
-// Carries out every decision that is not marked, and marks it. No where a site is left with no corner.
+// Carries out every decision that is not marked, and marks it. No where a site is left with no corner. The sites below `from` are
+// marked.
 fn carry_on(
     xs: &[u32; Limits::SITES],
     ys: &[u32; Limits::SITES],
@@ -196,18 +200,19 @@ fn carry_on(
     ways: &mut [u8; Limits::WAYS],
     decided: &mut [u8; Limits::SITES],
     marks: &mut [u8],
+    from: usize,
 ) -> bool
-    requires { ⌜ MayCarryOn n (now xs) (now ys) side (now ways) (now decided) (now marks) ⌝ }
+    requires { ⌜ MayCarryOn n (now xs) (now ys) side (now ways) (now decided) (now marks) from ⌝ }
     ensures carried { λ r. ⌜ CarriedOn (labels (side .0) n (now (xs .entry)) (now (ys .entry)))
         (now (ways .entry)) (now (decided .entry)) r (now (ways .exit)) (now (decided .exit)) ⌝ }
     ensures kept { λ r. ⌜ Kept n (now (marks .entry)) (now (marks .exit)) ⌝ }
 {
     loop {
-        let k = first_waiting(decided, marks, n);
+        let k = first_waiting(decided, marks, from, n);
         if k == n {
             return true;
         }
-        if !mark_and_carry(xs, ys, n, side, ways, decided, marks, k) {
+        if !mark_and_carry(xs, ys, n, side, ways, decided, marks, k, from) {
             return false;
         }
     }
@@ -244,7 +249,7 @@ fn take_corner(ways: &mut [u8; Limits::WAYS], decided: &mut [u8; Limits::SITES],
     decided[i] = c;
 }
 
-// Tries corner `c` of site `i`. No where the trial fails; the arrays are then put back as they came.
+// Tries corner `c` of site `i`, with all sites below it decided. No where the trial fails; the arrays are then put back as they came.
 pub(crate) fn try_corner(
     xs: &[u32; Limits::SITES],
     ys: &[u32; Limits::SITES],
@@ -265,7 +270,7 @@ pub(crate) fn try_corner(
     let decided_before = *decided;
     mark(decided, marks, n);
     take_corner(ways, decided, i, c);
-    if carry_on(xs, ys, n, side, ways, decided, marks) {
+    if carry_on(xs, ys, n, side, ways, decided, marks, i) {
         return true;
     }
     *ways = ways_before;

@@ -5,6 +5,7 @@ use mathlib.Core.Bool.{Bool, true, false, true≢false}
 use mathlib.Core.List.{List}
 use mathlib.Core.Logic.{_≢_, Ne·symm, _⊎_, inl, inr, ⊎-elim}
 use Prim.Native.Nat.{ℕ, _+_, _-_, _*_, _≤_, _<_}
+use native.Mathlib.Nat.{lt-of-lt-of-le}
 use native.Mathlib.Decide.{ℕ-discrete}
 use native.Mathlib.Omega.{arith}
 use lib.ListN.{length, getD, set, length-set}
@@ -236,10 +237,21 @@ pub record CarriedBelow (P : Problem) (ways₀ decided₀ : List ℕ) (k j : ℕ
   pub later : (i : ℕ) → j ≤ i → SameSite ways₀ decided₀ ways decided i
   pub own : SameSite ways₀ decided₀ ways decided k
 
--- It starts with no site.
-pub carried-start : (P : Problem) (ways decided : List ℕ) (k : ℕ) → Sizes ways decided → CarriedBelow P ways decided k 0 ways decided
-carried-start P ways decided k sizes =
-    record { sizes = sizes; carried = λ i reached. absurd (omega arith); later = λ i reached. as-is i; own = as-is k }
+-- It starts at site `from`: below it nothing is to be done.
+pub carried-start : {n : ℕ} {xs ys : List ℕ} {side : HalfUnits} {ways decided : List ℕ} {k from : ℕ}
+    → MayCarryOut n xs ys side ways decided k from → CarriedBelow (labels (side .0) n xs ys) ways decided k from ways decided
+carried-start {n} {xs} {ys} {side} {ways} {decided} {k} may =
+    record {
+      sizes = may .sizes;
+      carried = λ i below different.
+          carried-same (labels (side .0) n xs ys) ways decided k i
+          (may .settled .all-settled i (lt-of-lt-of-le below (may .inside)))
+          (may .sizes)
+          (λ other. may .apart-below i below other .apart)
+          .carried refl different;
+      later = λ i reached. as-is i;
+      own = as-is k;
+    }
   where
     as-is : (i : ℕ) → SameSite ways decided ways decided i
     as-is i = record { row = refl; decision = refl }
@@ -303,8 +315,9 @@ module _ {P : Problem} {ways₀ decided₀ : List ℕ} {k j : ℕ} {ways decided
         }
 
 -- On its way it may be carried to the next site.
-pub may-carry-to : {n : ℕ} {xs ys : List ℕ} {side : HalfUnits} {P : Problem} {ways₀ decided₀ : List ℕ} {k j : ℕ} {ways decided : List ℕ}
-    → MayCarryOut n xs ys side ways₀ decided₀ k → CarriedBelow P ways₀ decided₀ k j ways decided → j < n
+pub may-carry-to : {n : ℕ} {xs ys : List ℕ} {side : HalfUnits} {P : Problem} {ways₀ decided₀ : List ℕ}
+    {k from j : ℕ} {ways decided : List ℕ}
+    → MayCarryOut n xs ys side ways₀ decided₀ k from → CarriedBelow P ways₀ decided₀ k j ways decided → j < n
     → MayCarryTo xs ys side ways decided k (cornerAt decided₀ k) j
 may-carry-to {n} {xs} {ys} {k} {j} may below listed =
     let same = below .later j (omega arith) in

@@ -6,6 +6,7 @@ use mathlib.Core.Bool.{Bool, true, false, true≢false}
 use mathlib.Core.List.{List}
 use mathlib.Core.Logic.{_≢_}
 use Prim.Native.Nat.{ℕ, _≤_, _<_}
+use native.Mathlib.Nat.{lt-of-lt-of-le}
 use native.Mathlib.Omega.{arith}
 use lib.ListN.{length, set, length-set}
 use lib.Seq.{getD-set-other}
@@ -15,35 +16,38 @@ use Rattle.placing.specs.search.Problem.{Problem}
 use Rattle.placing.specs.search.Rows.{rowOf}
 use Rattle.placing.specs.search.State.{Underway, Closed, Later, Took}
 use Rattle.placing.specs.search.Trial.{trial-begins, trial-later-start, carried-underway, carried-later, stuck-refused, trial-closed}
-use Rattle.placing.specs.code.Ways.{Done, Sizes, AllSettled, TakenCorner, CarriedOut, FirstWaiting, Kept, Marked, CarriedOn, Tried}
+use Rattle.placing.specs.code.Ways.{Done, Sizes, AllSettled, TakenCorner, CarriedOut, Waits, FirstWaiting, Kept, Marked, CarriedOn, Tried}
 use Rattle.placing.specs.code.Sites.{Held}
 use Rattle.placing.specs.code.Labels.{labels, meet-equal}
-use Rattle.placing.specs.code.Asks.{MayCarryOut}
-use Rattle.placing.specs.code.Marks.{kept-same, kept-set, none-waits-marked}
+use Rattle.placing.specs.code.Asks.{MayCarryOut, MayCarryOn}
+use Rattle.placing.specs.code.Marks.{mark-stays, kept-same, kept-set, none-waits-marked}
 
--- Some decisions have been carried out since the state ways₀, decided₀: the marked ones.
-pub record CarryingOn (P : Problem) (ways₀ decided₀ marks₀ ways decided marks : List ℕ) : Type 0 where
+-- Some decisions have been carried out since the state ways₀, decided₀: the marked ones, those of the sites below `from` among them.
+pub record CarryingOn (P : Problem) (from : ℕ) (ways₀ decided₀ marks₀ ways decided marks : List ℕ) : Type 0 where
   pub sizes : Sizes ways decided
   pub room : P .n ≤ length marks
   pub kept : Kept (P .n) marks₀ marks
   pub underway : Underway P ways decided (Done marks)
   pub later : (w d : List ℕ) (i c : ℕ) → i < P .n → c ≢ 0
       → Later P w d i c ways₀ decided₀ → Later P w d i c ways decided
+  pub marked-below : (j : ℕ) → j < from → Done marks j
 
 -- Carrying on starts with the state as it is.
-pub carrying-starts : {P : Problem} {ways decided marks : List ℕ} → Sizes ways decided → P .n ≤ length marks
-    → Underway P ways decided (Done marks) → CarryingOn P ways decided marks ways decided marks
-carrying-starts sizes room underway =
+pub carrying-starts : {n : ℕ} {xs ys : List ℕ} {side : HalfUnits} {ways decided marks : List ℕ} {from : ℕ}
+    → MayCarryOn n xs ys side ways decided marks from
+    → CarryingOn (labels (side .0) n xs ys) from ways decided marks ways decided marks
+carrying-starts may =
     record {
-      sizes = sizes;
-      room = room;
+      sizes = may .sizes;
+      room = may .room;
       kept = kept-same;
-      underway = underway;
+      underway = may .underway;
       later = λ w d i c inside some later. later;
+      marked-below = may .marked-below;
     }
 
-module _ {P : Problem} {ways₀ decided₀ marks₀ ways decided marks : List ℕ}
-    (so-far : CarryingOn P ways₀ decided₀ marks₀ ways decided marks) where
+module _ {P : Problem} {from : ℕ} {ways₀ decided₀ marks₀ ways decided marks : List ℕ}
+    (so-far : CarryingOn P from ways₀ decided₀ marks₀ ways decided marks) where
   -- The decided corner of every decided site alone is open.
   carrying-settled : AllSettled (P .n) ways decided
   carrying-settled =
@@ -55,6 +59,10 @@ module _ {P : Problem} {ways₀ decided₀ marks₀ ways decided marks : List �
           };
         };
       }
+
+  -- No site below `from` waits.
+  pub none-below : (j : ℕ) → j < from → Waits decided marks j → ⊥
+  none-below j below waiting = waiting .unmarked (so-far .marked-below j below)
 
   -- Where no decision waits, the trial has carried on.
   pub carrying-ends : {k : ℕ} → FirstWaiting decided marks (P .n) k → k ≡ P .n → CarriedOn P ways₀ decided₀ true ways decided
@@ -72,9 +80,20 @@ module _ {P : Problem} {ways₀ decided₀ marks₀ ways decided marks : List �
     carrying-candidate =
         so-far .underway .candidate k (cornerAt decided k) listed (so-far .underway .decided-open k listed is-decided)
 
+    -- It conflicts with no open corner of a site below `from`: of that site the decided corner alone is open, and its decision has
+    -- been carried out.
+    carrying-apart : (j : ℕ) → j < from → j < P .n → j ≢ k → (e : ℕ) → rowOf ways j e ≡ 1
+        → P .Conflict k (cornerAt decided k) j e → ⊥
+    carrying-apart j below inside different e is-open conflict =
+        let state = so-far .underway in
+        let done = so-far .marked-below j below in
+        let taken = state .decided-alone j e inside (state .done-decided j inside done) is-open in
+        state .apart j k (cornerAt decided k) inside listed different done (state .decided-open k listed is-decided)
+        (rw taken at (P .symmetric k (cornerAt decided k) j e conflict))
+
     module _ {ok : Bool} {ways′ decided′ : List ℕ} (out : CarriedOut P ways decided k ok ways′ decided′) where
       -- After the decision of site k is carried out and k is marked, the trial goes on ..
-      pub carrying-on : ok ≡ true → CarryingOn P ways₀ decided₀ marks₀ ways′ decided′ (set marks k 1)
+      pub carrying-on : ok ≡ true → CarryingOn P from ways₀ decided₀ marks₀ ways′ decided′ (set marks k 1)
       carrying-on went =
           let carried = out .carried went in
           record {
@@ -85,6 +104,7 @@ module _ {P : Problem} {ways₀ decided₀ marks₀ ways decided marks : List �
                 (λ j inside different done. sym (getD-set-other marks k j 1 0 different) ∙ done);
             later = λ w d i c inside some later.
                 carried-later (so-far .underway) listed is-decided carried inside some (so-far .later w d i c inside some later);
+            marked-below = λ j below. mark-stays marks j (lt-of-lt-of-le listed (so-far .room)) (so-far .marked-below j below);
           }
 
       -- .. and where a site is left with no corner, it has failed.
@@ -99,10 +119,10 @@ module _ {P : Problem} {ways₀ decided₀ marks₀ ways decided marks : List �
           }
 
 -- A decision may be carried out: open corners are uncrowded, so their labels meet at equal corners only.
-pub may-carry-out : {n : ℕ} {xs ys : List ℕ} {side : HalfUnits} {ways₀ decided₀ marks₀ ways decided marks : List ℕ} {k : ℕ}
-    → Held n xs ys side → CarryingOn (labels (side .0) n xs ys) ways₀ decided₀ marks₀ ways decided marks → k < n
-    → cornerAt decided k ≢ 0 → MayCarryOut n xs ys side ways decided k
-may-carry-out {n} {xs} {ys} {side} held so-far listed is-decided =
+pub may-carry-out : {n : ℕ} {xs ys : List ℕ} {side : HalfUnits} {ways₀ decided₀ marks₀ ways decided marks : List ℕ} {k from : ℕ}
+    → Held n xs ys side → from ≤ n → CarryingOn (labels (side .0) n xs ys) from ways₀ decided₀ marks₀ ways decided marks → k < n
+    → cornerAt decided k ≢ 0 → MayCarryOut n xs ys side ways decided k from
+may-carry-out {n} {xs} {ys} {side} held inside so-far listed is-decided =
     let own = carrying-candidate so-far listed is-decided in
     record {
       held = held;
@@ -112,6 +132,10 @@ may-carry-out {n} {xs} {ys} {side} held so-far listed is-decided =
       settled = carrying-settled so-far;
       only-equal = λ j other different. record {
         equal = λ e is-open. meet-equal (side .0) n xs ys listed other different own (so-far .underway .candidate j e other is-open);
+      };
+      inside = inside;
+      apart-below = λ j below different. record {
+        apart = carrying-apart so-far listed is-decided j below (lt-of-lt-of-le below inside) different;
       };
     }
 

@@ -54,6 +54,14 @@ mark-fewer (suc n) {k} marks reached here none = from (ℕ-discrete n k) (λ bel
         rw (p, getD-set-same marks k 1 0 here, unmarked-same k marks below, ne-eqb (getD marks k 0) 1 none) (omega arith)
     from (no d) fewer = rw (getD-set-other marks k n 1 0 d) (omega (arith, fewer (omega arith)))
 
+-- A marked site stays marked.
+pub mark-stays : {k : ℕ} (marks : List ℕ) (j : ℕ) → k < length marks → Done marks j → Done (set marks k 1) j
+mark-stays {k} marks j here done = from (ℕ-discrete j k)
+  where
+    from : Dec (j ≡ k) → Done (set marks k 1) j
+    from (yes p) = rw p (getD-set-same marks k 1 0 here)
+    from (no d) = getD-set-other marks k j 1 0 d ∙ done
+
 -- A table is kept as it is.
 pub kept-same : {n : ℕ} {table : List ℕ} → Kept n table table
 kept-same = record { size = refl; rest = refl }

@@ -1,6 +1,7 @@
 -- `placing::choice::try_open` meets its contract: an open corner is tried, another one is refused.
 -- Assumes nothing.
 use mathlib.Core.Path.{_∙_}
+use native.Mathlib.Nat.{lt-trans}
 use native.Mathlib.Omega.{arith}
 use borrow.Author.Needs.{needs}
 use Rattle.placing.specs.code.Marks.{kept-same}
@@ -36,6 +37,7 @@ try-corner-requires c κs =
       listed = may .listed;
       corner = record { least = omega arith; most = omega arith };
       closed = may .walking .walked .closed;
+      decided-below = λ j below. may .walking .walked .all-decided j below (lt-trans below (may .listed));
       undecided = may .undecided;
       is-open = row-next _ (at-start .args .i) (at-start .args .e) (at-start .pre .1) ∙ at-open .if1 .taken;
     }

@@ -7,26 +7,32 @@ use borrow.Author.Tests.{not-true, not-false}
 use Rattle.placing.specs.code.Labels.{labels}
 use Rattle.placing.specs.code.Ways.{Waits}
 use Rattle.placing.specs.code.Marks.{unmarkedBelow, mark-fewer, kept-set}
-use Rattle.placing.specs.code.CarryOn.{CarryingOn, carrying-starts, carrying-ends, carrying-on, carrying-stuck, may-carry-out}
+use Rattle.placing.specs.code.CarryOn.{CarryingOn, carrying-starts, carrying-ends, carrying-on, carrying-stuck, none-below, may-carry-out}
 use Rattle.placing.proofs.trial.carry_on.Statement.{statement}
 use Rattle.placing.proofs.trial.carry_on.Tie as tie
 
 abbrev Inv-loop : tie.InvT-loop
-Inv-loop xs ys n side ways₀ decided₀ marks₀ ways decided marks =
-    CarryingOn (labels (side .0) n xs ys) ways₀ decided₀ marks₀ ways decided marks
+Inv-loop xs ys n side ways₀ decided₀ marks₀ from ways decided marks =
+    CarryingOn (labels (side .0) n xs ys) from ways₀ decided₀ marks₀ ways decided marks
 
 abbrev μ-loop : tie.MeasureT-loop
-μ-loop xs ys n side ways₀ decided₀ marks₀ ways decided marks = unmarkedBelow n marks
+μ-loop xs ys n side ways₀ decided₀ marks₀ from ways decided marks = unmarkedBelow n marks
 
 loop-holds : tie.Need-loop-holds Inv-loop μ-loop
-loop-holds c =
-    let asked = c .before .pre in
-    carrying-starts (asked .sizes) (asked .room) (asked .underway)
+loop-holds c = carrying-starts (c .before .pre)
 
 first-waiting-requires : tie.Need-first-waiting-requires Inv-loop μ-loop
 first-waiting-requires c κs =
-    let so-far = c .before .before .loop .inv in
-    (so-far .sizes .decided-size, c .before .before .before .before .pre .held .few, so-far .room)
+    let at-loop = c .before .before in
+    let asked = at-loop .before .before .pre in
+    let so-far = at-loop .loop .inv in
+    record {
+      size = so-far .sizes .decided-size;
+      few = asked .held .few;
+      room = so-far .room;
+      inside = asked .inside;
+      none-below = none-below so-far;
+    }
 
 same-length : tie.Need-same-length Inv-loop μ-loop
 same-length c = c .before .before .before .before .loop .inv .kept .size
@@ -52,8 +58,9 @@ mark-and-carry-requires : tie.Need-mark-and-carry-requires Inv-loop μ-loop
 mark-and-carry-requires c κs =
     let turn = c .before .before .before in
     let at-loop = turn .before .before .before .before in
+    let asked = at-loop .before .before .pre in
     let so-far = at-loop .loop .inv in (
-      may-carry-out (at-loop .before .before .pre .held) so-far (found turn) (found-waits turn .is-decided),
+      may-carry-out (asked .held) (asked .inside) so-far (found turn) (found-waits turn .is-decided),
       so-far .room,
     )
 

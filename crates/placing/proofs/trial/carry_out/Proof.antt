@@ -9,17 +9,17 @@ use Rattle.placing.proofs.trial.carry_out.Statement.{statement}
 use Rattle.placing.proofs.trial.carry_out.Tie as tie
 
 abbrev Inv-loop : tie.InvT-loop
-Inv-loop xs ys n side ways₀ decided₀ k c j₀ ways decided j =
+Inv-loop xs ys n side ways₀ decided₀ k from c j₀ ways decided j =
     (j ≤ n) × CarriedBelow (labels (side .0) n xs ys) ways₀ decided₀ k j ways decided
 
 abbrev μ-loop : tie.MeasureT-loop
-μ-loop xs ys n side ways₀ decided₀ k c j₀ ways decided j = n - j
+μ-loop xs ys n side ways₀ decided₀ k from c j₀ ways decided j = n - j
 
 element-copy-out-c : tie.Need-element-copy-out-c Inv-loop μ-loop
 element-copy-out-c c = omega arith
 
 loop-holds : tie.Need-loop-holds Inv-loop μ-loop
-loop-holds c = (omega arith, carried-start _ _ _ _ (c .before .pre .sizes))
+loop-holds c = (c .before .pre .inside, carried-start (c .before .pre))
 
 carry-to-requires : tie.Need-carry-to-requires Inv-loop μ-loop
 carry-to-requires c κs =

@@ -3,19 +3,19 @@
 use Prim.Native.Nat.{ℕ, _≤_, _<_, _-_}
 use native.Mathlib.Omega.{arith}
 use borrow.Author.Needs.{needs}
-use borrow.Author.Count.{below-none, below-more}
+use borrow.Author.Count.{below-more}
 use Rattle.placing.specs.code.Ways.{Waits}
 use Rattle.placing.proofs.trial.first_waiting.Statement.{statement}
 use Rattle.placing.proofs.trial.first_waiting.Tie as tie
 
 abbrev Inv-loop : tie.InvT-loop
-Inv-loop decided marks n k₀ k = (k ≤ n) × ((j : ℕ) → j < k → Waits decided marks j → ⊥)
+Inv-loop decided marks from n k₀ k = (k ≤ n) × ((j : ℕ) → j < k → Waits decided marks j → ⊥)
 
 abbrev μ-loop : tie.MeasureT-loop
-μ-loop decided marks n k₀ k = n - k
+μ-loop decided marks from n k₀ k = n - k
 
 loop-holds : tie.Need-loop-holds Inv-loop μ-loop
-loop-holds c = (omega arith, below-none _)
+loop-holds c = (c .before .pre .inside, c .before .pre .none-below)
 
 waits-requires : tie.Need-waits-requires Inv-loop μ-loop
 waits-requires c κs = search needs

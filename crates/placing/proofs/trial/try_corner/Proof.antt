@@ -1,5 +1,6 @@
 -- `placing::trial::try_corner` meets its contract: taking the corner starts a trial, and carrying on ends it; where it fails, the
 -- arrays are put back. Assumes nothing.
+use native.Mathlib.Nat.{le-of-lt, lt-trans}
 use Rattle.placing.specs.code.Marks.{kept-twice}
 use Rattle.placing.specs.code.CarryOn.{taken-underway, trial-passes, trial-fails}
 use borrow.Author.Needs.{needs}
@@ -24,6 +25,8 @@ carry-on-requires c κs =
       room = rw (marks .1 .size) (asked .room);
       underway = taken-underway (asked .closed) (asked .listed) (asked .undecided) (asked .is-open) (taken .take-corner .ensures)
           (marks .0);
+      inside = le-of-lt (asked .listed);
+      marked-below = λ j below. marks .0 .marked j (lt-trans below (asked .listed)) (asked .decided-below j below);
     }
 
 same-length : tie.Need-same-length

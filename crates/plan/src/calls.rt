@@ -10,7 +10,6 @@ use crate::plan::enter_read;
 use crate::plan::refuse;
 use crate::refusal::Outcome;
 use crate::refusal::Refusal;
-use placing::choice::Choice;
 use placing::place::choose_corners;
 use placing::place::find_side;
 use placing::units::Limits;
@@ -100,9 +99,10 @@ pub fn choose_at(plan: Plan, side: Side, table: &mut [u8]) -> Planned
     }
     let places = plan.places;
     let choice = choose_corners(places, n, side, table);
-    let Choice::First(corners) = choice else {
-        return refuse(plan, Refusal::NoChoice);
-    };
+    if !choice.exists {
+        return refuse(plan, Refusal::NoGoodChoice);
+    }
+    let corners = choice.corners;
     Planned {
         outcome: Outcome::Done,
         plan: Plan::placed_at(plan, side, corners),

@@ -14,7 +14,7 @@ pub enum Refusal {
     NotPlaced,
     ShortBuffer,
     ShortTable,
-    NoChoice,
+    NoGoodChoice,
 }
 
 // The answer of a call that hands back nothing but a plan.
@@ -39,6 +39,6 @@ pub fn number_of(refusal: Refusal) -> u8
         Refusal::NotPlaced => 9,
         Refusal::ShortBuffer => 10,
         Refusal::ShortTable => 11,
-        Refusal::NoChoice => 12,
+        Refusal::NoGoodChoice => 12,
     }
 }

@@ -4,6 +4,8 @@ pub mod Label
 pub mod Crowd
 pub mod Choice
 pub mod Answer
+-- Choosing at a given side, and at the side found.
+pub mod Given
 -- Labels meet exactly when they cover a point in common.
 pub mod CommonPoint
 -- The greatest side of labels is the supremum of the sides of closed squares.

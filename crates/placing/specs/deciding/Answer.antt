@@ -1,12 +1,14 @@
--- Document 01, "The answer", by plain search, which nothing runs.
+-- Document 01, "The answer", and the choice at a given side, by plain search, which nothing runs.
 -- Assumes nothing.
+use mathlib.Core.Bool.{Bool, true, false}
 use mathlib.Core.List.{List, []}
 use mathlib.Core.Option.{Option, none, some}
 use Prim.Native.Nat.{ℕ, zero, suc}
 use lib.ListN.{length}
 use Rattle.placing.specs.declared.units.Place.{Place}
+use Rattle.placing.specs.declared.units.Side.{Side}
 use Rattle.placing.specs.rules.Units.{greatestSide, freeSide}
-use Rattle.placing.specs.rules.Answer.{Answer, numbered, free}
+use Rattle.placing.specs.rules.Answer.{Answer, judgedAt, numbered, free}
 use Rattle.placing.specs.deciding.Tests.{goodTest}
 use Rattle.placing.specs.deciding.Enumerate.{firstOf}
 
@@ -23,3 +25,16 @@ greatest (suc h) ps = elim (firstGood (suc h) ps) [ some cs ↦ numbered (suc h)
 -- The answer: free where a good choice exists at 20,001, else the greatest side that has one.
 unfoldable pub answerOf : List Place → Answer
 answerOf ps = elim (firstGood freeSide ps) [ some cs ↦ free cs | none ↦ greatest greatestSide ps ]
+
+-- The corners of a choice, where there is one.
+abbrev pub isSome : Option (List ℕ) → Bool
+isSome (some cs) = true
+isSome none = false
+
+abbrev pub cornersOf : Option (List ℕ) → List ℕ
+cornersOf (some cs) = cs
+cornersOf none = []
+
+-- A given side with the first good choice there; it has no corners where none exists.
+unfoldable pub chosenAt : Side → List Place → Answer
+chosenAt side ps = record { side = side; corners = cornersOf (firstGood (judgedAt side) ps) }

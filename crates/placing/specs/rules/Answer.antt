@@ -1,8 +1,11 @@
--- Document 01, "The answer".
+-- Document 01, "The answer", and document 02, L1: the first good choice at a given side.
 -- Assumes nothing.
+use mathlib.Core.Path.{_≡_}
+use mathlib.Core.Bool.{Bool, true, _&&_}
 use mathlib.Core.List.{List}
 use mathlib.Core.Option.{Option, none, some}
 use Prim.Native.Nat.{ℕ, _≤_, _<_}
+use lib.Dec.{leb}
 use Rattle.placing.specs.declared.units.Place.{Place}
 use Rattle.placing.specs.declared.units.Side.{Side}
 use Rattle.placing.specs.declared.units.Side.the-variants.{Number, Free}
@@ -19,7 +22,11 @@ abbrev pub sideNumber : Side → Option ℕ
 sideNumber (Number side) = some (side .0)
 sideNumber Free = none
 
--- Document 02, L1: "A given side is from 1 to 20,000, or free, which is judged at 20,001." The side at which a side is judged.
+-- Document 02, L1: "A given side is from 1 to 20,000, or free, which is judged at 20,001."
+abbrev pub isSide : Side → Bool
+isSide (Number side) = leb 1 (side .0) && leb (side .0) greatestSide
+isSide Free = true
+
 abbrev pub judgedAt : Side → ℕ
 judgedAt (Number side) = side .0
 judgedAt Free = freeSide
@@ -37,3 +44,8 @@ pub data IsAnswer (ps : List Place) : Answer → Type 0 where
   is-free : {cs : List ℕ} → First freeSide ps cs → IsAnswer ps (free cs)
   is-number : {h : ℕ} {cs : List ℕ} → ((es : List ℕ) → Good freeSide ps es → ⊥) → 1 ≤ h → h ≤ greatestSide → First h ps cs
       → ((k : ℕ) → h < k → (es : List ℕ) → Good k ps es → ⊥) → IsAnswer ps (numbered h cs)
+
+-- L1, "choosing the first good choice at a given side": that side with these corners.
+pub record IsChosen (ps : List Place) (answer : Answer) : Type 0 where
+  pub given : isSide (answer .side) ≡ true
+  pub first : First (judgedAt (answer .side)) ps (answer .corners)

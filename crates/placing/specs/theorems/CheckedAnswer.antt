@@ -1,7 +1,7 @@
 -- A test of an answer that a checker can run: by the pruned search at the answer's side and at the next one. The known answers
 -- are proved by it.
 -- Assumes nothing.
-use mathlib.Core.Path.{_≡_, refl, sym, ap}
+use mathlib.Core.Path.{_≡_, refl, sym, ap, _∙_}
 use mathlib.Core.Bool.{Bool, true, false, _&&_}
 use mathlib.Core.List.{List, [], _∷_, cons≢nil}
 use mathlib.Core.Option.{Option, none, some, Option·some-ne-none, Option·none-ne-some}
@@ -11,12 +11,13 @@ use Rattle.placing.specs.declared.units.Place.{Place}
 use Rattle.placing.specs.declared.units.Side.{Side}
 use Rattle.placing.specs.declared.units.Side.the-variants.{Number, Free}
 use Rattle.placing.specs.rules.Units.{Distinct, greatestSide, freeSide}
+use Rattle.placing.specs.rules.Choice.{Good}
 use Rattle.placing.specs.rules.Answer.{Answer}
 use Rattle.placing.specs.deciding.Decides.{Decides, decides-same, decides-no, decides-yes}
 use Rattle.placing.specs.deciding.Tests.{le-decides, eq-decides, both-decide, distinctTest, distinct-decides}
-use Rattle.placing.specs.deciding.Enumerate.{found-first, nothing-found}
-use Rattle.placing.specs.deciding.Answer.{answerOf}
-use Rattle.placing.specs.theorems.Answer.{answer-found, answer-free}
+use Rattle.placing.specs.deciding.Enumerate.{FirstWith, found, missing, found-first, nothing-found}
+use Rattle.placing.specs.deciding.Answer.{firstGood, answerOf}
+use Rattle.placing.specs.theorems.Answer.{first-found, none-found, answer-found, answer-free}
 use Rattle.placing.specs.theorems.PrunedSearch.{prunedFirst, pruned-first}
 
 -- Two lists of corners are equal.
@@ -78,6 +79,20 @@ answer-right {ps} (Number h) cs places test =
     let r = passed (both-decide in-range searched) test in
     answer-found places (r .0 .0) (r .0 .1) (found-first (pruned-first (h .0) ps) (r .1 .0))
     (nothing-found (pruned-first (suc (h .0)) ps) (r .1 .1))
+
+-- The pruned search finds what plain search does, so that a search is tested by it.
+pruned-same : (h : ℕ) (ps : List Place) → prunedFirst h ps ≡ firstGood h ps
+pruned-same h ps = by-found (pruned-first h ps)
+  where
+    by-found : {o : Option (List ℕ)} → FirstWith (Good h ps) o → o ≡ firstGood h ps
+    by-found (found good none-before) = sym (first-found (record { good = good; none-before = none-before }))
+    by-found (missing no-good) = sym (none-found no-good)
+
+abbrev pub firstTest : ℕ → List Place → Option (List ℕ) → Bool
+firstTest h ps first = foundTest (prunedFirst h ps) first
+
+pub first-right : (h : ℕ) (ps : List Place) (first : Option (List ℕ)) → T (firstTest h ps first) → firstGood h ps ≡ first
+first-right h ps first test = sym (pruned-same h ps) ∙ passed (found-decides (prunedFirst h ps) first) test
 
 -- An answer that passes its test is the answer.
 pub checked-right : (ps : List Place) (answer : Answer) → T (checkedTest ps answer) → answerOf ps ≡ answer

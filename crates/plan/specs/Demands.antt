@@ -1,12 +1,15 @@
 -- The three demands: the whole claim, on one page. The contract of every call that can refuse, or writes, cites its part of it.
 -- Assumes nothing.
 use mathlib.Core.Path.{_≡_}
+use mathlib.Core.Bool.{true, false}
 use mathlib.Core.List.{List, [], _++_}
+use mathlib.Core.Logic.{_⊎_}
 use mathlib.Core.Option.{some}
 use Prim.Native.Nat.{ℕ, _+_, _*_, _≤_, _<_}
 use lib.ListN.{length, take, drop}
-use Rattle.placing.specs.rules.Choice.{Corners, MeetingPair}
-use Rattle.placing.specs.rules.Answer.{Answer, sideNumber, IsAnswer}
+use Rattle.placing.specs.declared.units.Side.{Side}
+use Rattle.placing.specs.rules.Choice.{Corners, MeetingPair, SomeGood}
+use Rattle.placing.specs.rules.Answer.{Answer, isSide, judgedAt, sideNumber, IsAnswer, IsChosen}
 use Rattle.plan.specs.declared.list.RefusedLine.{RefusedLine}
 use Rattle.plan.specs.declared.list.Stop.{Stop}
 use Rattle.plan.specs.declared.list.Stop.the-variants.{AtLine, Nowhere}
@@ -18,11 +21,11 @@ use Rattle.plan.specs.declared.plan.Written.{Written}
 use Rattle.plan.specs.declared.plan.Written.the-variants.{Bytes, NotWritten}
 use Rattle.plan.specs.rules.Refusal.{numberOf, numberBy, accepted}
 use Rattle.plan.specs.rules.List.{Site, placesOf, listText, enterTests, wantedAt, TextLine, FirstLine, lineTests, Reads}
-use Rattle.plan.specs.rules.Sheet.{sheetWith, numberOn, spotsOn, carried, refusalLine}
-use Rattle.plan.specs.deciding.Output.{sheetOf, outputOf}
-use Rattle.plan.specs.rules.Calls.{placingTests, sideTests, cornerTests, writeTests}
-use Rattle.plan.specs.calls.Plan.{unplacedPlan, placedPlan, sitesIn}
-use Rattle.plan.specs.calls.Answers.{outcomeNumber, sideAskedNumber, cornerAskedNumber, writtenNumber, started}
+use Rattle.plan.specs.rules.Sheet.{sheetWith, sideOn, numberOn, spotsOn, carried, refusalLine}
+use Rattle.plan.specs.deciding.Output.{outputOf, existsAt, outputAt}
+use Rattle.plan.specs.rules.Calls.{findingTests, choosingTests, cleared, sideTests, cornerTests, writeTests}
+use Rattle.plan.specs.calls.Plan.{unplacedPlan, placedWith, placedPlan, sitesIn}
+use Rattle.plan.specs.calls.Answers.{outcomeNumber, sideAskedNumber, cornerAskedNumber, writtenNumber, sheetFor, started}
 
 -- ---- demand 1: bad input is refused first, by its number, with plan and lent buffers as they were; all else ends in an answer
 
@@ -36,10 +39,18 @@ pub record Refuses {Given : Type 0} (given number : ℕ) (before after : Given) 
 abbrev pub EnterTold : Plan → List ℕ → (x y : ℕ) → Planned → Type 0
 EnterTold plan name x y r = Refuses (outcomeNumber (r .outcome)) (numberBy (enterTests (sitesIn plan) (wantedAt name x y))) plan (r .plan)
 
--- "Placing tests 8, 11": it is given a plan and a work table.
-abbrev pub PlaceTold : Plan → List ℕ → Planned → List ℕ → Type 0
-PlaceTold plan table r after =
-    Refuses {Given = Plan × List ℕ} (outcomeNumber (r .outcome)) (numberBy (placingTests (plan .count) table)) (plan, table) (r .plan, after)
+-- "Placing tests 8, 11": so does finding the side. It is lent a work table, and the plan stays with the caller.
+abbrev pub FindTold : Plan → List ℕ → AskedSide → List ℕ → Type 0
+FindTold plan table r after =
+    Refuses (sideAskedNumber r) (numberBy (findingTests (plan .count) (length table))) table after
+
+-- L1, choosing at a given side: 3, 8, 11, 12. A refusal hands back the plan as it came, and the table too; "12, unlike other refusals",
+-- leaves the table as choosing does.
+pub record ChooseTold (plan : Plan) (side : Side) (table : List ℕ) (r : Planned) (after : List ℕ) : Type 0 where
+  pub number-is : outcomeNumber (r .outcome) ≡ numberBy (choosingTests side (plan .count) (length table) (existsAt side (sitesIn plan)))
+  pub plan-kept : (outcomeNumber (r .outcome) ≡ 0 → ⊥) → r .plan ≡ plan
+  pub table-kept : (outcomeNumber (r .outcome) ≡ 0 → ⊥) → (outcomeNumber (r .outcome) ≡ 12 → ⊥) → after ≡ table
+  pub table-cleared : (outcomeNumber (r .outcome) ≡ 0) ⊎ (outcomeNumber (r .outcome) ≡ 12) → after ≡ cleared (plan .count) table
 
 -- Asking the side tests 9; it is lent nothing, and the plan stays with the caller.
 abbrev pub SideTold : Plan → AskedSide → Type 0
@@ -52,7 +63,7 @@ CornerTold plan i r = cornerAskedNumber r ≡ numberBy (cornerTests (plan .place
 -- "Writing tests 9, 10": it is lent a buffer.
 abbrev pub WriteTold : Plan → List ℕ → Written → List ℕ → Type 0
 WriteTold plan buffer r after =
-    Refuses (writtenNumber r) (numberBy (writeTests (plan .placed) (sheetOf (sitesIn plan)) buffer)) buffer after
+    Refuses (writtenNumber r) (numberBy (writeTests (plan .placed) (sheetFor plan) buffer)) buffer after
 
 -- "Reading does so line after line with 1 before 2, and stops at the first refused line." Counted from 1, that is the line behind
 -- those of the sites before it, which are accepted; its number is that of the first row of a line's table whose test holds there.
@@ -106,6 +117,19 @@ pub data ListTold (text : List ℕ) (r : Planned) : Type 0 where
   list-refused : ListRefused text (outcomeNumber (r .outcome)) → r .plan ≡ started → ListTold text r
   list-placed : (sites : List Site) → Accepts text sites → outcomeNumber (r .outcome) ≡ 0 → r .plan ≡ placedPlan sites → ListTold text r
 
+-- L1: the same at a given side. 3 is tested first, before the list is read; 12 after 8.
+pub data RefusedAt (side : Side) (text : List ℕ) : ℕ → Type 0 where
+  out-of-range : isSide side ≡ false → RefusedAt side text 3
+  refused-list : isSide side ≡ true → {number : ℕ} → ListRefused text number → RefusedAt side text number
+  none-good : isSide side ≡ true → (sites : List Site) → Accepts text sites → (SomeGood (judgedAt side) (placesOf sites) → ⊥)
+      → RefusedAt side text 12
+
+pub data ListToldAt (side : Side) (text : List ℕ) (r : Planned) : Type 0 where
+  refused-at : RefusedAt side text (outcomeNumber (r .outcome)) → r .plan ≡ started → ListToldAt side text r
+  placed-at : (sites : List Site) (corners : List ℕ) → Accepts text sites
+      → IsChosen (placesOf sites) (record { side = side; corners = corners }) → outcomeNumber (r .outcome) ≡ 0
+      → r .plan ≡ placedWith sites (record { side = side; corners = corners }) → ListToldAt side text r
+
 -- ---- demand 3: at every side above twice the printed number, whole or fraction, any choice of corners has two labels that meet
 
 -- "A rival is any list of corners, one for each of these lines, with any side p/q above twice the number, that is p > 2 × number × q.
@@ -132,10 +156,31 @@ pub record RightSheet (sites : List Site) (sheet : List ℕ) : Type 0 where
   -- Demand 3.
   pub no-rival : NoRival sheet
 
+-- ---- the same of a sheet at whatever side its plan was placed (document 02, L1)
+
+-- "At the side found for that very plan": the printed side is that of the answer for the spots, all read off the bytes.
+pub record PrintsFound (sheet : List ℕ) : Type 0 where
+  pub found : Answer
+  pub is-answer : IsAnswer (spotsOn sheet) found
+  pub printed : sideOn sheet ≡ some (found .side)
+
+pub record PlacedSheet (sites : List Site) (side : Side) (sheet : List ℕ) : Type 0 where
+  -- "The plan remembers the side it was placed at, and the sheet prints that one", with the first good choice there.
+  pub corners : List ℕ
+  pub is-chosen : IsChosen (placesOf sites) (record { side = side; corners = corners })
+  pub prints : sheet ≡ sheetWith sites (record { side = side; corners = corners })
+  pub side-on : sideOn sheet ≡ some side
+  pub spots : spotsOn sheet ≡ placesOf sites
+  pub list : carried sheet ≡ listText sites
+  -- "The list a sheet carries gives the same sheet again when placed at the same side", which is read off its bytes.
+  pub again : (printed : Side) → sideOn sheet ≡ some printed → outputAt printed (carried sheet) ≡ sheet
+  -- "That the side is the greatest, and the twice-the-side guarantee, then hold only at the side found": there it is right as above.
+  pub at-found : PrintsFound sheet → RightSheet sites sheet
+
 -- "The sheet is what an accepted writing leaves in the buffer, from its first byte up to the length it gives."
-abbrev pub SheetWritten : List Site → Written → List ℕ → Type 0
-SheetWritten sites (Bytes n) buffer = RightSheet sites (take n buffer)
-SheetWritten sites (NotWritten why) buffer = Unit {0}
+abbrev pub SheetWritten : List Site → Side → Written → List ℕ → Type 0
+SheetWritten sites side (Bytes n) buffer = PlacedSheet sites side (take n buffer)
+SheetWritten sites side (NotWritten why) buffer = Unit {0}
 
 -- ---- from a list to its output: all three
 
@@ -150,3 +195,14 @@ pub record SheetFor (text sheet : List ℕ) : Type 0 where
 pub data Answered (text output : List ℕ) : Type 0 where
   refusal-line : {number : ℕ} → ListRefused text number → output ≡ refusalLine number → Answered text output
   list-sheet : SheetFor text output → Answered text output
+
+-- L1: at a given side likewise.
+pub record SheetForAt (side : Side) (text sheet : List ℕ) : Type 0 where
+  pub sites : List Site
+  pub accepts : Accepts text sites
+  pub placed : PlacedSheet sites side sheet
+  pub gives-back : carried sheet ≡ text
+
+pub data AnsweredAt (side : Side) (text output : List ℕ) : Type 0 where
+  refusal-at : {number : ℕ} → RefusedAt side text number → output ≡ refusalLine number → AnsweredAt side text output
+  sheet-at : SheetForAt side text output → AnsweredAt side text output

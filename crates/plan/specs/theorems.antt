@@ -11,6 +11,7 @@ pub mod Sheet
 pub mod ReadOff
 pub mod Plan
 pub mod Calls
+pub mod Choosing
 pub mod HandedBack
 pub mod Output
 pub mod OneOutput

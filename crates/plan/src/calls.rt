@@ -1,4 +1,4 @@
-// The calls of document 01 on a plan. A call takes the plan and hands back the one after it, where that can be another.
+// The calls of document 01 on a plan, with placing split in two as document 02 asks. A call takes the plan and hands back the one after it, where that can be another.
 use crate::name::name_from;
 use crate::number::coordinate_at;
 use crate::number::place_at;
@@ -15,14 +15,20 @@ use placing::place::find_side;
 use placing::units::Limits;
 use placing::units::Side;
 ghost use mathlib.Core.Path.{_≡_};
+ghost use Prim.Native.Nat.{_≤_};
+ghost use lib.ListN.{length};
+ghost use Rattle.placing.specs.rules.Units.{mostSites};
 ghost use Rattle.placing.specs.rules.Choice.{cornerAt};
-ghost use Rattle.placing.specs.rules.Answer.{sideNumber};
-ghost use Rattle.plan.specs.rules.Refusal.{numberBy};
-ghost use Rattle.plan.specs.rules.Calls.{sideTests, cornerTests};
-ghost use Rattle.plan.specs.calls.Plan.{Valid};
-ghost use Rattle.plan.specs.calls.Answers.{enteredIn, placedIn, tableAfter, answerFor, sideAsked, cornerAsked, counted};
+ghost use Rattle.placing.specs.rules.Answer.{isSide, sideNumber};
+ghost use Rattle.placing.specs.deciding.Answer.{answerOf};
+ghost use Rattle.plan.specs.rules.Refusal.{firstRefusal, numberBy};
+ghost use Rattle.plan.specs.rules.List.{placesOf};
+ghost use Rattle.plan.specs.rules.Calls.{findingTests, sideTests, cornerTests};
+ghost use Rattle.plan.specs.calls.Plan.{sitesIn, Valid};
+ghost use Rattle.plan.specs.calls.Answers.{enteredIn, foundIn, tableFound, chosenIn, tableChosen, answerFor, sideAsked, cornerAsked, counted};
 ghost use Rattle.plan.specs.calls.Answers.{carriedAt, sideCarried, cornerCarried};
-ghost use Rattle.plan.specs.Demands.{EnterTold, PlaceTold, SideTold, CornerTold};
+ghost use Rattle.plan.specs.code.Entering.{outcomeOf};
+ghost use Rattle.plan.specs.Demands.{EnterTold, FindTold, ChooseTold, SideTold, CornerTold};
 
 // Enters one site at the end: tests 2, 3, 7, 4, 5.
 pub fn enter(plan: Plan, name: &[u8], x: u64, y: u64) -> Planned
@@ -53,9 +59,11 @@ fn unready(n: usize, bytes: usize) -> Outcome
 // Finds the greatest side of the plan's sites: tests 8, 11. The plan stays with the caller, as it was.
 pub fn find(plan: Plan, table: &mut [u8]) -> AskedSide
     requires { ⌜ Valid plan ⌝ }
-    ensures answer { λ r. ⌜ r ≡ sideFoundIn plan (now (table .entry)) ⌝ }
+    ensures answer { λ r. ⌜ r ≡ foundIn plan (now (table .entry)) ⌝ }
     ensures table { λ r. ⌜ now (table .exit) ≡ tableFound plan (now (table .entry)) ⌝ }
     ensures told { λ r. ⌜ FindTold plan (now (table .entry)) r (now (table .exit)) ⌝ }
+    ensures value { λ r. ⌜ sideCarried r
+        ≡ carriedAt (numberBy (findingTests (plan .count) (length (now (table .entry))))) (sideNumber (answerOf (placesOf (sitesIn plan)) .side)) ⌝ }
 {
     let n = plan.count;
     let failed = unready(n, table.len());

@@ -1,9 +1,11 @@
-// The whole way from a list to the bytes that the placing program writes.
+// The whole way from a list to the bytes that the placing program writes, at the side found and at a given side.
 use crate::calls::choose_at;
 use crate::calls::find;
+use crate::calls::is_side;
 use crate::limits::TextLimits;
 use crate::list::read;
 use crate::plan::AskedSide;
+use crate::plan::Plan;
 use crate::plan::Planned;
 use crate::plan::refuse;
 use crate::put::put_byte;
@@ -13,18 +15,20 @@ use crate::refusal::Outcome;
 use crate::refusal::Refusal;
 use crate::refusal::number_of;
 use crate::sheet::compose;
+use placing::units::Side;
 ghost use mathlib.Core.Path.{_≡_};
 ghost use Prim.Native.Nat.{_≤_};
 ghost use lib.ListN.{length, take};
 ghost use Rattle.plan.specs.rules.Refusal.{numberOf};
 ghost use Rattle.plan.specs.rules.Sheet.{refusalLine};
 ghost use Rattle.plan.specs.rules.Calls.{filledWith};
-ghost use Rattle.plan.specs.deciding.Output.{outputOf};
+ghost use Rattle.plan.specs.deciding.Output.{outputOf, outputAt};
 ghost use Rattle.plan.specs.calls.Plan.{Valid};
-ghost use Rattle.plan.specs.calls.Answers.{listPlaced};
+ghost use Rattle.plan.specs.calls.Answers.{listPlaced, listPlacedAt};
 ghost use Rattle.plan.specs.calls.Lengths.{longestRefusalLine};
 ghost use Rattle.plan.specs.code.Put.{Put};
-ghost use Rattle.plan.specs.Demands.{ListTold, Answered};
+ghost use Rattle.plan.specs.code.Filling.{MayPut, plannedOutput};
+ghost use Rattle.plan.specs.Demands.{ListTold, ListToldAt, Answered, AnsweredAt};
 
 // The line of a refusal: the word refused, a tab, the number and a line feed.
 fn put_refusal(out: &mut [u8], why: Refusal) -> usize
@@ -37,7 +41,21 @@ fn put_refusal(out: &mut [u8], why: Refusal) -> usize
     put_byte(out, digits, b'\n')
 }
 
-// The plan of a list, placed; where the list is refused or has no sites, an empty plan. It lends placing a work table of its own.
+// Puts the sheet of a plan that was placed, or the line of the refusal, at the front of the array, and gives its length.
+fn put_planned(planned: Planned, out: &mut [u8]) -> usize
+    requires { ⌜ MayPut planned (now out) ⌝ }
+    ensures { λ r. ⌜ Put (now (out .entry)) 0 (plannedOutput planned) r (now (out .exit)) ⌝ }
+{
+    let outcome = planned.outcome;
+    if let Outcome::Refused(why) = outcome {
+        return put_refusal(out, why);
+    }
+    let plan = planned.plan;
+    compose(plan, out)
+}
+
+// The plan of a list, placed at the side found; where the list is refused or has no sites, an empty plan. It lends both calls a work
+// table of its own.
 pub fn place_list(text: &[u8]) -> Planned
     ensures answer { λ r. ⌜ r ≡ listPlaced (now (text .entry)) ⌝ }
     ensures valid { λ r. ⌜ Valid (r .plan) ⌝ }
@@ -57,6 +75,30 @@ pub fn place_list(text: &[u8]) -> Planned
     }
 }
 
+// The plan of a list, placed at a given side; an empty plan where that is refused.
+pub fn place_list_at(text: &[u8], side: Side) -> Planned
+    ensures answer { λ r. ⌜ r ≡ listPlacedAt side (now (text .entry)) ⌝ }
+    ensures valid { λ r. ⌜ Valid (r .plan) ⌝ }
+    ensures told { λ r. ⌜ ListToldAt side (now (text .entry)) r ⌝ }
+{
+    if !is_side(side) {
+        return refuse(Plan::start(), Refusal::BadNumber);
+    }
+    let listed = read(text);
+    let reading = listed.outcome;
+    if let Outcome::Refused(_) = reading {
+        return listed;
+    }
+    let mut table = [0u8; TextLimits::TABLE];
+    let level = listed.plan;
+    let placed = choose_at(level, side, &mut table);
+    let choosing = placed.outcome;
+    if let Outcome::Refused(why) = choosing {
+        return refuse(Plan::start(), why);
+    }
+    placed
+}
+
 // The output for a list: its sheet, or the line of its refusal, and its length. The array has room for every sheet.
 pub fn output(text: &[u8], buffer: &mut [u8; TextLimits::SHEET]) -> usize
     ensures length { λ r. ⌜ r ≡ length (outputOf (now (text .entry))) ⌝ }
@@ -64,10 +106,15 @@ pub fn output(text: &[u8], buffer: &mut [u8; TextLimits::SHEET]) -> usize
     ensures answered { λ r. ⌜ Answered (now (text .entry)) (take r (now (buffer .exit))) ⌝ }
 {
     let placed = place_list(text);
-    let outcome = placed.outcome;
-    if let Outcome::Refused(why) = outcome {
-        return put_refusal(buffer, why);
-    }
-    let plan = placed.plan;
-    compose(plan, buffer)
+    put_planned(placed, buffer)
+}
+
+// The output for a list at a given side.
+pub fn output_at(text: &[u8], side: Side, buffer: &mut [u8; TextLimits::SHEET]) -> usize
+    ensures length { λ r. ⌜ r ≡ length (outputAt side (now (text .entry))) ⌝ }
+    ensures buffer { λ r. ⌜ now (buffer .exit) ≡ filledWith (outputAt side (now (text .entry))) (now (buffer .entry)) ⌝ }
+    ensures answered { λ r. ⌜ AnsweredAt side (now (text .entry)) (take r (now (buffer .exit))) ⌝ }
+{
+    let placed = place_list_at(text, side);
+    put_planned(placed, buffer)
 }

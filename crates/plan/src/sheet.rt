@@ -1,4 +1,4 @@
-// Writing the sheet of a placed plan.
+// Writing the sheet of a placed plan, at the side that it is placed at.
 use crate::limits::TextLimits;
 use crate::name::Name;
 use crate::plan::Plan;
@@ -18,10 +18,9 @@ ghost use Rattle.placing.specs.rules.Units.{OnPlan};
 ghost use Rattle.placing.specs.rules.Corner.{Corner};
 ghost use Rattle.plan.specs.rules.Refusal.{numberBy};
 ghost use Rattle.plan.specs.rules.Text.{mostNameBytes};
-ghost use Rattle.plan.specs.deciding.Output.{sheetOf};
 ghost use Rattle.plan.specs.rules.Calls.{writeTests};
 ghost use Rattle.plan.specs.calls.Plan.{sitesIn, Valid};
-ghost use Rattle.plan.specs.calls.Answers.{writtenIn, bufferAfter, writtenLength, carriedAt};
+ghost use Rattle.plan.specs.calls.Answers.{sheetFor, writtenIn, bufferAfter, writtenLength, carriedAt};
 ghost use Rattle.plan.specs.calls.Lengths.{longestSideLine, longestSiteLine, longestSheet};
 ghost use Rattle.plan.specs.code.Taken.{siteOf};
 ghost use Rattle.plan.specs.code.Put.{Put};
@@ -70,7 +69,7 @@ fn put_line(plan: Plan, i: usize, out: &mut [u8], at: usize) -> usize
 // The whole sheet of a placed plan, from the first byte on.
 pub(crate) fn compose(plan: Plan, out: &mut [u8]) -> usize
     requires { ⌜ Valid plan × (plan .placed ≡ true) × (longestSheet ≤ length (now out)) ⌝ }
-    ensures { λ r. ⌜ Put (now (out .entry)) 0 (sheetOf (sitesIn plan)) r (now (out .exit)) ⌝ }
+    ensures { λ r. ⌜ Put (now (out .entry)) 0 (sheetFor plan) r (now (out .exit)) ⌝ }
 {
     let side = plan.side;
     let mut at = put_side(out, side);
@@ -85,10 +84,10 @@ pub fn write(plan: Plan, buffer: &mut [u8]) -> Written
     requires { ⌜ Valid plan ⌝ }
     ensures answer { λ r. ⌜ r ≡ writtenIn plan (now (buffer .entry)) ⌝ }
     ensures buffer { λ r. ⌜ now (buffer .exit) ≡ bufferAfter plan (now (buffer .entry)) ⌝ }
-    ensures sheet { λ r. ⌜ SheetWritten (sitesIn plan) r (now (buffer .exit)) ⌝ }
+    ensures sheet { λ r. ⌜ SheetWritten (sitesIn plan) (plan .side) r (now (buffer .exit)) ⌝ }
     ensures told { λ r. ⌜ WriteTold plan (now (buffer .entry)) r (now (buffer .exit)) ⌝ }
     ensures value { λ r. ⌜ writtenLength r
-        ≡ carriedAt (numberBy (writeTests (plan .placed) (sheetOf (sitesIn plan)) (now (buffer .entry)))) (length (sheetOf (sitesIn plan))) ⌝ }
+        ≡ carriedAt (numberBy (writeTests (plan .placed) (sheetFor plan) (now (buffer .entry)))) (length (sheetFor plan)) ⌝ }
 {
     if !plan.placed {
         return Written::NotWritten(Refusal::NotPlaced);

@@ -8,7 +8,7 @@ use lib.Dec.{eqb}
 use lib.ListN.{length}
 use Rattle.placing.specs.declared.units.Side.{Side}
 use Rattle.placing.specs.rules.Answer.{Answer, sideNumber}
-use Rattle.placing.specs.deciding.Answer.{answerOf}
+use Rattle.placing.specs.deciding.Answer.{answerOf, chosenAt}
 use Rattle.plan.specs.declared.refusal.Outcome.{Outcome}
 use Rattle.plan.specs.declared.refusal.Outcome.the-variants.{Done, Refused}
 use Rattle.plan.specs.declared.plan.Plan.{Plan}
@@ -21,10 +21,10 @@ use Rattle.plan.specs.declared.plan.Written.{Written}
 use Rattle.plan.specs.declared.plan.Written.the-variants.{Bytes, NotWritten}
 use Rattle.plan.specs.rules.Refusal.{numberOf, Result, accepted, refused, afterTests}
 use Rattle.plan.specs.rules.List.{Site, placesOf, entered, wantedAt}
-use Rattle.plan.specs.deciding.Output.{sheetOf}
-use Rattle.plan.specs.rules.Calls.{placingTests, cleared, sideGiven, cornerGiven, lengthGiven, filledWith, bytesAfter, toPlace}
+use Rattle.plan.specs.deciding.Output.{sheetAt, existsAt}
+use Rattle.plan.specs.rules.Calls.{findingTests, choosingTests, beforeChoice, cleared, sideGiven, cornerGiven, lengthGiven, filledWith, bytesAfter, toPlace, toPlaceAt}
 use Rattle.plan.specs.deciding.Reading.{readList}
-use Rattle.plan.specs.calls.Plan.{unplacedPlan, placedPlan, sitesIn}
+use Rattle.plan.specs.calls.Plan.{unplacedPlan, placedWith, placedPlan, sitesIn}
 
 -- ---- the answers that are enums: for each case the number of document 01, 0 where the call is accepted, and the value it carries
 
@@ -70,9 +70,9 @@ carriedAt number value = elim (eqb number 0) [ true ↦ some value | false ↦ n
 abbrev pub started : Plan
 started = unplacedPlan []
 
--- The plan of these sites where a call is accepted, and where it is refused another one.
-abbrev pub handed : (List Site → Plan) → Plan → Result (List Site) → Planned
-handed plan-of other (accepted sites) = record { outcome = Done; plan = plan-of sites }
+-- The plan that a call's value makes where it is accepted, and where it is refused another one.
+abbrev pub handed : {A : Type 0} → (A → Plan) → Plan → Result A → Planned
+handed plan-of other (accepted value) = record { outcome = Done; plan = plan-of value }
 handed plan-of other (refused why) = record { outcome = Refused why; plan = other }
 
 -- "Entering makes the plan unplaced"; refused, it hands back the plan as it came.
@@ -83,25 +83,42 @@ enteredIn plan name x y = handed unplacedPlan plan (entered (sitesIn plan) (want
 abbrev pub readFrom : List ℕ → Planned
 readFrom text = handed unplacedPlan started (readList text)
 
--- Placing; and the table afterwards.
-abbrev pub sitesPlaced : Plan → List ℕ → Result (List Site)
-sitesPlaced plan table = afterTests (placingTests (plan .count) table) (sitesIn plan)
-
-abbrev pub placedIn : Plan → List ℕ → Planned
-placedIn plan table = handed placedPlan plan (sitesPlaced plan table)
-
-abbrev pub tableAfter : Plan → List ℕ → List ℕ
-tableAfter plan table = bytesAfter (sitesPlaced plan table) (cleared (plan .count) table) table
-
--- The answer of the rules for the sites that a plan holds.
-abbrev pub answerFor : Plan → Answer
-answerFor plan = answerOf (placesOf (sitesIn plan))
-
--- Asking the side.
+-- A side that is asked or found.
 abbrev pub sideAnswer : Result Side → AskedSide
 sideAnswer (accepted side) = SideIs side
 sideAnswer (refused why) = NoSide why
 
+-- Finding the side, and the table afterwards. L1: "Finding leaves the plan as it was": it hands back none.
+abbrev pub sideFound : Plan → List ℕ → Result Side
+sideFound plan table = afterTests (findingTests (plan .count) (length table)) (answerOf (placesOf (sitesIn plan)) .side)
+
+abbrev pub foundIn : Plan → List ℕ → AskedSide
+foundIn plan table = sideAnswer (sideFound plan table)
+
+abbrev pub tableFound : Plan → List ℕ → List ℕ
+tableFound plan table = bytesAfter (sideFound plan table) (cleared (plan .count) table) table
+
+-- Choosing at a given side: the side with the first good choice there. Then the plan, and the table afterwards.
+abbrev pub chosenFor : Plan → Side → List ℕ → Result Answer
+chosenFor plan side table =
+    afterTests (choosingTests side (plan .count) (length table) (existsAt side (sitesIn plan))) (chosenAt side (placesOf (sitesIn plan)))
+
+abbrev pub chosenIn : Plan → Side → List ℕ → Planned
+chosenIn plan side table = handed (placedWith (sitesIn plan)) plan (chosenFor plan side table)
+
+abbrev pub tableChosen : Plan → Side → List ℕ → List ℕ
+tableChosen plan side table =
+    bytesAfter (afterTests (beforeChoice side (plan .count) (length table)) side) (cleared (plan .count) table) table
+
+-- L1: "The plan remembers the side it was placed at, and the sheet prints that one": that side with the first good choice there.
+abbrev pub answerFor : Plan → Answer
+answerFor plan = chosenAt (plan .side) (placesOf (sitesIn plan))
+
+-- Its sheet.
+abbrev pub sheetFor : Plan → List ℕ
+sheetFor plan = sheetAt (plan .side) (sitesIn plan)
+
+-- Asking the side.
 abbrev pub sideAsked : Plan → AskedSide
 sideAsked plan = sideAnswer (sideGiven (plan .placed) (answerFor plan))
 
@@ -123,14 +140,21 @@ writtenAnswer (accepted n) = Bytes n
 writtenAnswer (refused why) = NotWritten why
 
 abbrev pub lengthWritten : Plan → List ℕ → Result ℕ
-lengthWritten plan buffer = lengthGiven (plan .placed) (sheetOf (sitesIn plan)) buffer
+lengthWritten plan buffer = lengthGiven (plan .placed) (sheetFor plan) buffer
 
 abbrev pub writtenIn : Plan → List ℕ → Written
 writtenIn plan buffer = writtenAnswer (lengthWritten plan buffer)
 
 abbrev pub bufferAfter : Plan → List ℕ → List ℕ
-bufferAfter plan buffer = bytesAfter (lengthWritten plan buffer) (filledWith (sheetOf (sitesIn plan)) buffer) buffer
+bufferAfter plan buffer = bytesAfter (lengthWritten plan buffer) (filledWith (sheetFor plan) buffer) buffer
 
 -- Reading a list and placing it: where it is refused or has no sites, an empty plan.
 abbrev pub listPlaced : List ℕ → Planned
 listPlaced text = handed placedPlan started (toPlace (readList text))
+
+-- The same at a given side: an empty plan where there is no good choice, too.
+abbrev pub placedAt : Side → List Site → Plan
+placedAt side sites = placedWith sites (chosenAt side (placesOf sites))
+
+abbrev pub listPlacedAt : Side → List ℕ → Planned
+listPlacedAt side text = handed (placedAt side) started (toPlaceAt side (existsAt side) (readList text))

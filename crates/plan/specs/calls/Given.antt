@@ -4,7 +4,7 @@ use mathlib.Core.Bool.{true, false}
 use mathlib.Core.Option.{Option, some, none}
 use Rattle.placing.specs.declared.units.Side.{Side}
 use Rattle.placing.specs.declared.units.Side.the-variants.{Number}
-use Rattle.plan.specs.rules.Calls.{isSide}
+use Rattle.placing.specs.rules.Answer.{isSide}
 
 -- A word that is no side in range gives the number 0, which every call refuses with 3.
 abbrev pub sideGivenBy : Option Side → Side

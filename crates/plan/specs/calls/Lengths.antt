@@ -25,9 +25,13 @@ shortestSiteLine = 4 * (1 + 1)
 abbrev pub longestSheet : ℕ
 longestSheet = longestSideLine + mostSites * longestSiteLine
 
--- No sheet is shorter: the word side, a tab, the word free, a line feed, and the line of one site.
+-- No sheet at the side found is shorter: the word side, a tab, the word free, a line feed, and the line of one site.
 abbrev pub shortestSheet : ℕ
 shortestSheet = 4 + 1 + 4 + 1 + shortestSiteLine
+
+-- Nor one at a given side, which may have one digit.
+abbrev pub shortestSheetAt : ℕ
+shortestSheetAt = 4 + 1 + 1 + 1 + shortestSiteLine
 
 -- No line of a refusal is longer: the word refused, a tab, a number, a line feed, with room for five digits where two are the most.
 abbrev pub longestRefusalLine : ℕ

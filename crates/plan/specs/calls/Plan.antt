@@ -8,8 +8,9 @@ use lib.ListN.{length, take, replicate}
 use Rattle.placing.specs.declared.units.Place.{Place}
 use Rattle.placing.specs.declared.units.Side.the-variants.{Free}
 use Rattle.placing.specs.rules.Units.{nowhere, mostSites}
+use Rattle.placing.specs.rules.Answer.{Answer, IsChosen}
 use Rattle.placing.specs.deciding.Answer.{answerOf}
-use Rattle.placing.specs.calls.Placing.{placedAs}
+use Rattle.placing.specs.calls.Placing.{cornersHeld}
 use Rattle.plan.specs.declared.name.Name.{Name}
 use Rattle.plan.specs.declared.plan.Plan.{Plan}
 use Rattle.plan.specs.rules.Text.{mostNameBytes}
@@ -46,17 +47,21 @@ unplacedPlan sites =
       corners = replicate mostSites 0;
     }
 
--- The plan of some sites once it is placed: with the answer for their places.
-unfoldable pub placedPlan : List Site → Plan
-placedPlan sites =
+-- The plan of some sites once it is placed at a side with these corners. L1: "The plan remembers the side it was placed at."
+unfoldable pub placedWith : List Site → Answer → Plan
+placedWith sites answer =
     record {
       count = length sites;
       names = namesHeld sites;
       places = placesHeld sites;
       placed = true;
-      side = placedAs (answerOf (placesOf sites)) .side;
-      corners = placedAs (answerOf (placesOf sites)) .corners;
+      side = answer .side;
+      corners = cornersHeld (answer .corners);
     }
+
+-- With the answer for their places.
+abbrev pub placedPlan : List Site → Plan
+placedPlan sites = placedWith sites (answerOf (placesOf sites))
 
 -- Names and places side by side.
 unfoldable pub sitesFrom : List Name → List Place → List Site
@@ -68,7 +73,8 @@ sitesFrom (name ∷ names) (place ∷ places) = record { name = nameHeld name; p
 unfoldable pub sitesIn : Plan → List Site
 sitesIn plan = sitesFrom (take (plan .count) (plan .names)) (take (plan .count) (plan .places))
 
--- A plan that the calls hand back.
+-- A plan that the calls hand back: placed at a side, it has the first good choice there.
 pub data Valid : Plan → Type 0 where
   is-unplaced : (sites : List Site) → Listed sites → Valid (unplacedPlan sites)
-  is-placed : (sites : List Site) → Listed sites → 1 ≤ length sites → Valid (placedPlan sites)
+  is-placed : (sites : List Site) (answer : Answer) → Listed sites → 1 ≤ length sites → IsChosen (placesOf sites) answer
+      → Valid (placedWith sites answer)

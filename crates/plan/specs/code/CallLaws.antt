@@ -2,26 +2,45 @@
 -- Assumes nothing.
 use mathlib.Core.Path.{_≡_, refl, sym, ap, _∙_, subst}
 use mathlib.Core.Bool.{true, false}
-use mathlib.Core.List.{List}
-use Prim.Native.Nat.{ℕ, _*_, _≤_, _<_}
+use mathlib.Core.List.{List, [], _∷_}
+use mathlib.Core.Option.{Option, some, none}
+use Prim.Native.Nat.{ℕ, _≤_, _<_}
 use native.Mathlib.Omega.{arith}
-use borrow.Author.Tests.{eq-eqb, ne-eqb, lt-ltb, le-ltb, le-leb, lt-leb}
+use borrow.Author.Tests.{le-leb, lt-leb}
 use lib.ListN.{length, getD}
+use Rattle.placing.specs.declared.units.Side.{Side}
+use Rattle.placing.specs.rules.Answer.{isSide, sideNumber}
+use Rattle.placing.specs.deciding.Answer.{answerOf, chosenAt}
+use Rattle.placing.specs.theorems.Given.{chosen-is}
 use Rattle.plan.specs.declared.refusal.Outcome.the-variants.{Done, Refused}
 use Rattle.plan.specs.declared.refusal.Refusal.{Refusal}
 use Rattle.plan.specs.declared.refusal.Refusal.the-variants as why
 use Rattle.plan.specs.declared.plan.Plan.{Plan}
 use Rattle.plan.specs.declared.plan.Planned.{Planned}
+use Rattle.plan.specs.declared.plan.AskedSide.{AskedSide}
 use Rattle.plan.specs.declared.plan.AskedSide.the-variants.{SideIs, NoSide}
 use Rattle.plan.specs.declared.plan.AskedCorner.the-variants.{CornerIs, NoCorner}
-use Rattle.plan.specs.rules.Refusal.{Result, accepted, refused}
-use Rattle.plan.specs.rules.List.{Site, Listed}
-use Rattle.plan.specs.rules.Calls.{cleared, bytesAfter}
-use Rattle.plan.specs.calls.Plan.{unplacedPlan, placedPlan, sitesIn, Valid, is-unplaced, is-placed}
-use Rattle.plan.specs.calls.Answers.{handed, sitesPlaced, placedIn, tableAfter, sideAsked, cornerAsked}
-use Rattle.plan.specs.Demands.{PlaceTold}
-use Rattle.plan.specs.theorems.Plan.{Holding, valid-side, valid-corner}
-use Rattle.plan.specs.theorems.Calls.{place-told}
+use Rattle.plan.specs.rules.Refusal.{firstRefusal, numberBy, Result, accepted, refused, unless}
+use Rattle.plan.specs.rules.List.{Site, placesOf, Listed}
+use Rattle.plan.specs.rules.Calls.{findingTests, choosingTests, beforeChoice, noGood, cleared, bytesAfter}
+use Rattle.plan.specs.deciding.Output.{existsAt}
+use Rattle.plan.specs.calls.Plan.{unplacedPlan, placedWith, sitesIn, Valid, is-unplaced, is-placed}
+use Rattle.plan.specs.calls.Answers.{
+  handed,
+  sideAnswer,
+  sideCarried,
+  carriedAt,
+  foundIn,
+  tableFound,
+  chosenIn,
+  tableChosen,
+  sideAsked,
+  cornerAsked,
+}
+use Rattle.plan.specs.Demands.{FindTold, ChooseTold}
+use Rattle.plan.specs.theorems.Tables.{first-early, first-late}
+use Rattle.plan.specs.theorems.Plan.{valid-holding, valid-corner}
+use Rattle.plan.specs.theorems.Calls.{find-told, choose-told}
 
 -- ---- answers
 
@@ -43,45 +62,96 @@ accepts plan {after} {sites} {more} listed same is-accepted = (
   subst Valid (sym same) (is-unplaced more listed),
 )
 
--- ---- placing: tests 8, 11
+-- ---- finding: tests 8, 11
+
+-- What is promised of finding.
+abbrev pub FindPromised : Plan → List ℕ → AskedSide → List ℕ → Type 0
+FindPromised plan table r left =
+    (r ≡ foundIn plan table)
+    × ((left ≡ tableFound plan table)
+    × (FindTold plan table r left
+    × (sideCarried r
+    ≡ carriedAt (numberBy (findingTests (plan .count) (length table))) (sideNumber (answerOf (placesOf (sitesIn plan)) .side)))))
 
 module _ (plan : Plan) (table : List ℕ) where
-  -- There are no sites.
-  pub none-placed : plan .count ≡ 0 → sitesPlaced plan table ≡ refused why.NoSites
-  none-placed none = rw (eq-eqb (plan .count) 0 none)
+  -- All of it follows from the first refusal, the side and the table.
+  find-promised : {r : AskedSide} {left : List ℕ} (first : Option Refusal) → firstRefusal (findingTests (plan .count) (length table)) ≡ first
+      → r ≡ sideAnswer (unless first (answerOf (placesOf (sitesIn plan)) .side))
+      → left ≡ bytesAfter (unless first (answerOf (placesOf (sitesIn plan)) .side)) (cleared (plan .count) table) table
+      → FindPromised plan table r left
+  find-promised {r} {left} first is r-is left-is =
+      let side = answerOf (placesOf (sitesIn plan)) .side in
+      let found : r ≡ foundIn plan table = r-is ∙ ap (λ (f : Option Refusal). sideAnswer (unless f side)) (sym is) in
+      let left-so : left ≡ tableFound plan table
+      = left-is ∙ ap (λ (f : Option Refusal). bytesAfter (unless f side) (cleared (plan .count) table) table) (sym is) in
+      (found, (left-so, find-told plan table found left-so))
 
-  -- The table is short.
-  pub short-placed : (plan .count ≡ 0 → ⊥) → length table < plan .count * plan .count → sitesPlaced plan table ≡ refused why.ShortTable
-  short-placed some short = rw (ne-eqb (plan .count) 0 some, lt-ltb (length table) (plan .count * plan .count) short)
+  -- Refused, finding changes nothing.
+  pub find-refuses : {why : Refusal} → firstRefusal (findingTests (plan .count) (length table)) ≡ some why
+      → FindPromised plan table (NoSide why) table
+  find-refuses {why} is = find-promised (some why) is refl refl
 
-  -- None of these.
-  all-placed : (plan .count ≡ 0 → ⊥) → plan .count * plan .count ≤ length table → sitesPlaced plan table ≡ accepted (sitesIn plan)
-  all-placed some room = rw (ne-eqb (plan .count) 0 some, le-ltb (length table) (plan .count * plan .count) room)
+  -- Accepted, it tells the side and has cleared the table.
+  pub find-accepts : {side : Side} {left : List ℕ} → firstRefusal (findingTests (plan .count) (length table)) ≡ none
+      → side ≡ answerOf (placesOf (sitesIn plan)) .side → left ≡ cleared (plan .count) table → FindPromised plan table (SideIs side) left
+  find-accepts is side-is left-is = find-promised none is (ap SideIs side-is) left-is
 
-  -- What is promised of placing, from what it comes to.
-  placing-promised : {r : Planned} {left : List ℕ} {sites : Result (List Site)} → sitesPlaced plan table ≡ sites → r ≡ handed placedPlan plan sites
-      → left ≡ bytesAfter sites (cleared (plan .count) table) table → Valid (r .plan)
-      → (r ≡ placedIn plan table) × ((left ≡ tableAfter plan table) × (Valid (r .plan) × PlaceTold plan table r left))
-  placing-promised {r} {left} comes r-is left-is valid =
-      let is : r ≡ placedIn plan table = r-is ∙ ap (handed placedPlan plan) (sym comes) in
-      let left-so : left ≡ tableAfter plan table
-      = left-is ∙ ap (λ (s : Result (List Site)). bytesAfter s (cleared (plan .count) table) table) (sym comes) in
-      (is, (left-so, (valid, place-told plan table is left-so)))
+-- ---- choosing at a given side: tests 3, 8, 11, 12
 
-  -- Refused, placing changes nothing.
-  pub place-refuses : {why : Refusal} {r : Planned} → Valid plan → r ≡ refusal-of plan why → sitesPlaced plan table ≡ refused why
-      → (r ≡ placedIn plan table) × ((table ≡ tableAfter plan table) × (Valid (r .plan) × PlaceTold plan table r table))
-  place-refuses valid is-refused comes =
-      placing-promised comes is-refused refl (subst (λ (p : Planned). Valid (p .plan)) (sym is-refused) valid)
+-- What is promised of choosing.
+abbrev pub ChoosePromised : Plan → Side → List ℕ → Planned → List ℕ → Type 0
+ChoosePromised plan side table r left =
+    (r ≡ chosenIn plan side table) × ((left ≡ tableChosen plan side table) × (Valid (r .plan) × ChooseTold plan side table r left))
 
-  -- Accepted, it hands back the placed plan and has cleared the table.
-  pub place-accepts : {after : Plan} {left : List ℕ} → Holding plan (sitesIn plan) → (plan .count ≡ 0 → ⊥)
-      → plan .count * plan .count ≤ length table → after ≡ placedPlan (sitesIn plan) → left ≡ cleared (plan .count) table
-      → (record { outcome = Done; plan = after } ≡ placedIn plan table)
-      × ((left ≡ tableAfter plan table) × (Valid after × PlaceTold plan table (record { outcome = Done; plan = after }) left))
-  place-accepts {after} {left} holding some room same left-is =
-      placing-promised (all-placed some room) (ap {B = Planned} (λ (p : Plan). record { outcome = Done; plan = p }) same) left-is
-      (subst Valid (sym same) (is-placed (sitesIn plan) (holding .listed) (omega (arith, holding .count))))
+-- The refusal of the tests before 12: 3 where the side cannot be given, else that of finding.
+pub outside-first : (side : Side) (n bytes : ℕ) → isSide side ≡ false → firstRefusal (beforeChoice side n bytes) ≡ some why.BadNumber
+outside-first side n bytes given = rw given
+
+pub given-first : (side : Side) (n bytes : ℕ) {first : Option Refusal} → isSide side ≡ true → firstRefusal (findingTests n bytes) ≡ first
+    → firstRefusal (beforeChoice side n bytes) ≡ first
+given-first side n bytes given is = rw given is
+
+module _ {plan : Plan} (valid : Valid plan) (side : Side) (table : List ℕ) where
+  -- All of it follows from the refusal of all tests, and from that of the tests before 12.
+  choose-promised : {r : Planned} {left : List ℕ} (first early : Option Refusal)
+      → firstRefusal (choosingTests side (plan .count) (length table) (existsAt side (sitesIn plan))) ≡ first
+      → firstRefusal (beforeChoice side (plan .count) (length table)) ≡ early
+      → r ≡ handed (placedWith (sitesIn plan)) plan (unless first (chosenAt side (placesOf (sitesIn plan))))
+      → left ≡ bytesAfter (unless early side) (cleared (plan .count) table) table → Valid (r .plan) → ChoosePromised plan side table r left
+  choose-promised {r} {left} first early first-is early-is r-is left-is after-valid =
+      let answer = chosenAt side (placesOf (sitesIn plan)) in
+      let is : r ≡ chosenIn plan side table
+      = r-is ∙ ap (λ (f : Option Refusal). handed (placedWith (sitesIn plan)) plan (unless f answer)) (sym first-is) in
+      let left-so : left ≡ tableChosen plan side table
+      = left-is ∙ ap (λ (f : Option Refusal). bytesAfter (unless f side) (cleared (plan .count) table) table) (sym early-is) in
+      (is, (left-so, (after-valid, choose-told plan side table is left-so)))
+
+  -- Refused before 12, choosing changes nothing.
+  pub choose-refuses : {r : Planned} {why : Refusal} → firstRefusal (beforeChoice side (plan .count) (length table)) ≡ some why
+      → r ≡ refusal-of plan why → ChoosePromised plan side table r table
+  choose-refuses {r} {why} early is =
+      choose-promised (some why) (some why) (first-early (beforeChoice side (plan .count) (length table)) (noGood (existsAt side (sitesIn plan)) ∷ []) early) early is refl
+      (subst (λ (p : Planned). Valid (p .plan)) (sym is) valid)
+
+  module _ (early : firstRefusal (beforeChoice side (plan .count) (length table)) ≡ none) {r : Planned} {left : List ℕ}
+      (left-is : left ≡ cleared (plan .count) table) where
+    -- Where no good choice exists, the table alone is changed.
+    pub choose-none : existsAt side (sitesIn plan) ≡ false → r ≡ refusal-of plan why.NoGoodChoice → ChoosePromised plan side table r left
+    choose-none none-good is =
+        choose-promised (some why.NoGoodChoice) none
+        (first-late (beforeChoice side (plan .count) (length table)) (noGood (existsAt side (sitesIn plan)) ∷ []) early ∙ rw none-good) early is left-is
+        (subst (λ (p : Planned). Valid (p .plan)) (sym is) valid)
+
+    -- Accepted, it hands back the plan placed at the side.
+    pub choose-accepts : existsAt side (sitesIn plan) ≡ true → isSide side ≡ true → 1 ≤ plan .count
+        → r ≡ record { outcome = Done; plan = placedWith (sitesIn plan) (chosenAt side (placesOf (sitesIn plan))) }
+        → ChoosePromised plan side table r left
+    choose-accepts there given some-sites is =
+        let holding = valid-holding valid in
+        choose-promised none none
+        (first-late (beforeChoice side (plan .count) (length table)) (noGood (existsAt side (sitesIn plan)) ∷ []) early ∙ rw there) early is left-is
+        (subst (λ (p : Planned). Valid (p .plan)) (sym is)
+        (is-placed (sitesIn plan) _ (holding .listed) (omega (arith, holding .count)) (chosen-is (placesOf (sitesIn plan)) side given there)))
 
 -- ---- asking: tests 9, 6
 
@@ -90,9 +160,9 @@ pub side-refused : (plan : Plan) → plan .placed ≡ false → NoSide why.NotPl
 side-refused plan is = rw is
 
 -- one that is placed tells the side it holds.
-pub side-given : {plan : Plan} → Valid plan → plan .placed ≡ true → SideIs (plan .side) ≡ sideAsked plan
-unfolding sitesIn
-side-given {plan} valid is = rw is (ap SideIs (valid-side valid is))
+pub side-given : (plan : Plan) → plan .placed ≡ true → SideIs (plan .side) ≡ sideAsked plan
+unfolding chosenAt
+side-given plan is = rw is
 
 module _ (plan : Plan) (i : ℕ) where
   -- A plan that is not placed has no corner to tell,

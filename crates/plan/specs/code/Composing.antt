@@ -15,18 +15,18 @@ use Rattle.placing.specs.declared.units.Side.the-variants.{Number, Free}
 use Rattle.placing.specs.rules.Units.{OnPlan, nowhere, along, X, Y, mostSites}
 use Rattle.placing.specs.rules.Corner.{Corner}
 use Rattle.placing.specs.rules.Choice.{Corners}
-use Rattle.placing.specs.rules.Answer.{Answer, IsAnswer, is-free, is-number}
-use Rattle.placing.specs.deciding.Answer.{answerOf}
-use Rattle.placing.specs.theorems.Answer.{answer-is}
+use Rattle.placing.specs.rules.Answer.{Answer, isSide, IsChosen}
+use Rattle.placing.specs.theorems.Given.{number-range, is-chosen-at}
 use Rattle.plan.specs.declared.name.Name.{Name}
 use Rattle.plan.specs.declared.plan.Plan.{Plan}
 use Rattle.plan.specs.rules.Text.{tab, lineFeed, decimal, mostNameBytes}
 use Rattle.plan.specs.rules.List.{Site, placeOf, placesOf, noSite, Listed, listLine}
 use Rattle.plan.specs.rules.Sheet.{sideText, siteLines, sheetWith}
-use Rattle.plan.specs.deciding.Output.{sheetOf}
-use Rattle.plan.specs.calls.Plan.{nameHeld, nameRecord, placedPlan, unplacedPlan, sitesIn, Valid, is-placed, is-unplaced}
+use Rattle.plan.specs.deciding.Output.{sheetAt}
+use Rattle.plan.specs.calls.Plan.{nameHeld, nameRecord, placedWith, unplacedPlan, sitesIn, Valid, is-placed, is-unplaced}
 use Rattle.plan.specs.theorems.Text.{decimal-short, decimal-digit, name-short}
-use Rattle.plan.specs.theorems.Sheet.{answer-corners}
+use Rattle.plan.specs.calls.Answers.{sheetFor}
+use Rattle.plan.specs.theorems.Sheet.{chosen-corners}
 use Rattle.plan.specs.calls.Lengths.{longestSideLine, longestSiteLine, longestSheet}
 use Rattle.plan.specs.theorems.Plan.{sites-placed}
 use Rattle.plan.specs.code.SheetParts.{sideLineEnded, siteLineEnded, SideSmall, pastNames, siteHeld, lineHeld}
@@ -116,7 +116,7 @@ pub record Printable (plan : Plan) : Type 0 where
   pub corner : (i : ℕ) → i < plan .count → Corner (getD (plan .corners) i 0)
   pub no-line : linesTo plan 0 ≡ []
   pub one-line : (i : ℕ) → i < plan .count → linesTo plan (suc i) ≡ linesTo plan i ++ lineHeld plan i
-  pub whole : sideLineEnded (plan .side) ++ linesTo plan (plan .count) ≡ sheetOf (sitesIn plan)
+  pub whole : sideLineEnded (plan .side) ++ linesTo plan (plan .count) ≡ sheetFor plan
 
 -- What a list's elements were made to, with more behind it, at the number of an element.
 held-at : {A B : Type 0} (f : A → B) (l : List A) (more : List B) (i : ℕ) (d : B) (e : A) → i < length l
@@ -125,82 +125,83 @@ held-at f [] more i d e listed = absurd (not-suc-le-zero listed)
 held-at f (a ∷ l) more zero d e listed = refl
 held-at f (a ∷ l) more (suc i) d e listed = held-at f l more i d e (le-of-suc-le-suc listed)
 
--- A side of an answer is one that a sheet can print.
-answer-side : {ps : List Place} {a : Answer} → IsAnswer ps a → SideSmall (a .side)
-answer-side (is-free first) = tt
-answer-side (is-number none-free least most first above) = most
+-- A side that can be given is one that a sheet can print.
+given-small : (side : Side) → isSide side ≡ true → SideSmall side
+given-small (Number side) given = number-range (side .0) given .1
+given-small Free given = tt
 
-module _ (sites : List Site) (listed : Listed sites) where
+module _ (sites : List Site) (answer : Answer) (listed : Listed sites) (chosen : IsChosen (placesOf sites) answer) where
   -- The name's record that is held at a number,
-  name-at : (i : ℕ) → i < length sites → getD (placedPlan sites .names) i pastNames ≡ nameRecord (getD sites i noSite)
-  unfolding placedPlan
+  name-at : (i : ℕ) → i < length sites → getD (placedWith sites answer .names) i pastNames ≡ nameRecord (getD sites i noSite)
+  unfolding placedWith
   name-at i below = held-at nameRecord sites _ i pastNames noSite below
 
   -- the place,
-  place-held : (i : ℕ) → i < length sites → getD (placedPlan sites .places) i nowhere ≡ getD sites i noSite .place
-  unfolding placedPlan
+  place-held : (i : ℕ) → i < length sites → getD (placedWith sites answer .places) i nowhere ≡ getD sites i noSite .place
+  unfolding placedWith
   place-held i below = held-at placeOf sites _ i nowhere noSite below
 
   -- and so the site.
-  site-held : (i : ℕ) → i < length sites → siteHeld (placedPlan sites) i ≡ getD sites i noSite
+  site-held : (i : ℕ) → i < length sites → siteHeld (placedWith sites answer) i ≡ getD sites i noSite
   site-held i below =
       ap₂ siteOf (name-at i below) (place-held i below)
       ∙ ap (λ (name : List ℕ). record { name = name; place = getD sites i noSite .place })
       (name-held (getD sites i noSite .name))
 
-  -- The corners of the answer, one for each site.
-  held-corners : Corners (length (placesOf sites)) (answerOf (placesOf sites) .corners)
-  held-corners = answer-corners (answer-is (placesOf sites) (listed .places-distinct))
+  -- The corners chosen, one for each site.
+  held-corners : Corners (length (placesOf sites)) (answer .corners)
+  held-corners = chosen-corners chosen
 
   -- So there are as many as sites,
-  corners-enough : length (answerOf (placesOf sites) .corners) ≡ length sites
+  corners-enough : length (answer .corners) ≡ length sites
   corners-enough = held-corners .one-each ∙ length-map sites placeOf
 
   -- and the one that is held at a number is a corner.
-  corner-held : (i : ℕ) → i < length sites → Corner (getD (placedPlan sites .corners) i 0)
-  unfolding placedPlan
+  corner-held : (i : ℕ) → i < length sites → Corner (getD (placedWith sites answer .corners) i 0)
+  unfolding placedWith
   corner-held i below =
-      rw (List·getD-append (answerOf (placesOf sites) .corners) _ 0 i (omega (arith, corners-enough)))
+      rw (List·getD-append (answer .corners) _ 0 i (omega (arith, corners-enough)))
       (held-corners .corner i (omega (arith, length-map sites placeOf)))
 
   -- The place at a number is in range.
-  on-plan-held : (i : ℕ) → i < length sites → OnPlan (getD (placedPlan sites .places) i nowhere)
+  on-plan-held : (i : ℕ) → i < length sites → OnPlan (getD (placedWith sites answer .places) i nowhere)
   on-plan-held i below = rw (place-held i below) (listed .by-rules i below .on-plan)
 
   -- The lines of the first sites are those of the list.
-  lines-held : (i : ℕ) → linesTo (placedPlan sites) i ≡ siteLines (take i sites) (placedPlan sites .corners)
+  lines-held : (i : ℕ) → linesTo (placedWith sites answer) i ≡ siteLines (take i sites) (placedWith sites answer .corners)
   unfolding linesTo
-  lines-held i = ap (λ (l : List Site). siteLines (take i l) (placedPlan sites .corners)) (sites-placed sites)
+  lines-held i = ap (λ (l : List Site). siteLines (take i l) (placedWith sites answer .corners)) (sites-placed sites answer)
 
   -- One site more is one line more,
   one-line-held : (i : ℕ) → i < length sites
-      → linesTo (placedPlan sites) (suc i) ≡ linesTo (placedPlan sites) i ++ siteLineEnded (siteHeld (placedPlan sites) i) (getD (placedPlan sites .corners) i 0)
-  unfolding placedPlan
+      → linesTo (placedWith sites answer) (suc i) ≡ linesTo (placedWith sites answer) i ++ siteLineEnded (siteHeld (placedWith sites answer) i) (getD (placedWith sites answer .corners) i 0)
+  unfolding placedWith
   one-line-held i below =
       lines-held (suc i)
-      ∙ site-lines-more sites (placedPlan sites .corners) i below
+      ∙ site-lines-more sites (placedWith sites answer .corners) i below
       (simp length-append (omega (arith, corners-enough)))
-      ∙ ap₂ (λ (lines : List ℕ) (site : Site). lines ++ siteLineEnded site (getD (placedPlan sites .corners) i 0)) (sym (lines-held i))
+      ∙ ap₂ (λ (lines : List ℕ) (site : Site). lines ++ siteLineEnded site (getD (placedWith sites answer .corners) i 0)) (sym (lines-held i))
       (sym (site-held i below))
 
   -- and all lines, with the first, are the sheet.
-  whole-held : sideLineEnded (placedPlan sites .side) ++ linesTo (placedPlan sites) (length sites) ≡ sheetOf (sitesIn (placedPlan sites))
-  unfolding placedPlan sheetOf
+  whole-held : sideLineEnded (placedWith sites answer .side) ++ linesTo (placedWith sites answer) (length sites) ≡ sheetFor (placedWith sites answer)
+  unfolding placedWith sheetAt
   whole-held =
-      ap (λ (lines : List ℕ). sideLineEnded (placedPlan sites .side) ++ lines)
+      ap (λ (lines : List ℕ). sideLineEnded (placedWith sites answer .side) ++ lines)
       (lines-held (length sites)
-      ∙ ap (λ (l : List Site). siteLines l (placedPlan sites .corners)) (take-length sites)
-      ∙ lines-past sites (answerOf (placesOf sites) .corners) _ (omega (arith, corners-enough)))
-      ∙ sheet-of-lines sites (answerOf (placesOf sites))
-      ∙ ap sheetOf (sym (sites-placed sites))
+      ∙ ap (λ (l : List Site). siteLines l (placedWith sites answer .corners)) (take-length sites)
+      ∙ lines-past sites (answer .corners) _ (omega (arith, corners-enough)))
+      ∙ sheet-of-lines sites answer
+      ∙ ap (sheetWith sites) (is-chosen-at chosen)
+      ∙ ap (sheetAt (answer .side)) (sym (sites-placed sites answer))
 
   -- So the plan of some sites can be printed.
-  placed-printable : Printable (placedPlan sites)
-  unfolding placedPlan linesTo siteLines
+  placed-printable : Printable (placedWith sites answer)
+  unfolding placedWith linesTo siteLines
   placed-printable =
       record {
         few = listed .few;
-        side-small = answer-side (answer-is (placesOf sites) (listed .places-distinct));
+        side-small = given-small (answer .side) (chosen .given);
         name-fits = λ i below. rw (name-at i below) (name-short (getD sites i noSite .name) (listed .by-rules i below .named));
         on-plan = on-plan-held;
         corner = corner-held;
@@ -213,7 +214,7 @@ module _ (sites : List Site) (listed : Listed sites) where
 pub printable : {plan : Plan} → Valid plan → plan .placed ≡ true → Printable plan
 unfolding unplacedPlan
 printable (is-unplaced sites listed) placed = absurd (false≢true placed)
-printable (is-placed sites listed nonempty) placed = placed-printable sites listed
+printable (is-placed sites answer listed nonempty chosen) placed = placed-printable sites answer listed chosen
 
 -- ---- the lines written so far
 
@@ -252,7 +253,7 @@ module _ {plan : Plan} {out₀ out : List ℕ} {at₀ at i : ℕ} (print : Print
 
   -- and after the last line the sheet is written.
   pub composed-end : {first : List ℕ} → Put first 0 (sideLineEnded (plan .side)) at₀ out₀ → plan .count ≤ i
-      → Put first 0 (sheetOf (sitesIn plan)) at out
+      → Put first 0 (sheetFor plan) at out
   composed-end side-put done =
       let last : i ≡ plan .count = omega (arith, so-far .counted) in
       put-same (put-then side-put (so-far .lines)) (ap (λ (k : ℕ). sideLineEnded (plan .side) ++ linesTo plan k) last ∙ print .whole)

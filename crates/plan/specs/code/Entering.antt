@@ -56,7 +56,7 @@ outcomeOf (some why) = Refused why
 abbrev pub rows : (unnamed outside full named placed : Bool) → List Test
 rows unnamed outside full named placed =
     unnamed gives why.BadName
-    ∷ outside gives why.BadCoordinate
+    ∷ outside gives why.BadNumber
     ∷ full gives why.Full
     ∷ named gives why.NameTaken
     ∷ placed gives why.PlaceTaken
@@ -64,11 +64,11 @@ rows unnamed outside full named placed =
 
 -- ---- laws: the outcome that the code finds is that of the table
 
-outcome-refused : (first : Option Refusal) {why : Refusal} → outcomeOf first ≡ Refused why → first ≡ some why
+pub outcome-refused : (first : Option Refusal) {why : Refusal} → outcomeOf first ≡ Refused why → first ≡ some why
 outcome-refused none is = cc
 outcome-refused (some other) is = cc
 
-outcome-done : (first : Option Refusal) → outcomeOf first ≡ Done → first ≡ none
+pub outcome-done : (first : Option Refusal) → outcomeOf first ≡ Done → first ≡ none
 outcome-done none is = refl
 outcome-done (some other) is = cc
 

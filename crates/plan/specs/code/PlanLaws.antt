@@ -7,17 +7,20 @@ use Prim.Native.Nat.{ℕ, suc, _+_, _-_, _*_, _≤_, _<_}
 use native.Mathlib.Omega.{arith}
 use lib.ListN.{length, getD, take, set, replicate, length-map, length-append, List·getD-append, List·getD-map}
 use lib.Seq.{take-at, set-at}
-use Rattle.placing.specs.declared.side.Placed.{Placed}
+use Rattle.placing.specs.declared.choice.Choice.{Choice}
 use Rattle.placing.specs.declared.units.Place.{Place}
+use Rattle.placing.specs.declared.units.Side.{Side}
 use Rattle.placing.specs.declared.units.Side.the-variants.{Free}
 use Rattle.placing.specs.rules.Units.{nowhere, mostSites}
-use Rattle.placing.specs.deciding.Answer.{answerOf}
-use Rattle.placing.specs.calls.Placing.{placedAs, MayPlace}
+use Rattle.placing.specs.rules.Answer.{judgedAt}
+use Rattle.placing.specs.deciding.Answer.{firstGood, isSome, chosenAt}
+use Rattle.placing.specs.calls.Placing.{choiceAs, MayPlace}
 use Rattle.plan.specs.declared.name.Name.{Name}
 use Rattle.plan.specs.declared.plan.Plan.{Plan}
 use Rattle.plan.specs.rules.Text.{mostNameBytes}
 use Rattle.plan.specs.rules.List.{Site, noSite, placeOf, placesOf, nameTaken, placeTaken}
-use Rattle.plan.specs.calls.Plan.{nameOf, nameHeld, nameRecord, namesHeld, placesHeld, unplacedPlan, placedPlan, Valid, is-unplaced}
+use Rattle.plan.specs.calls.Plan.{nameOf, nameHeld, nameRecord, namesHeld, placesHeld, unplacedPlan, placedWith, Valid, is-unplaced}
+use Rattle.plan.specs.deciding.Output.{existsAt}
 use Rattle.plan.specs.theorems.Text.{name-short}
 use Rattle.plan.specs.theorems.Sites.{listed-none, listed-in-range}
 use Rattle.plan.specs.theorems.Plan.{Holding}
@@ -107,19 +110,27 @@ holding-more {plan} {sites} holding name place named room = λ k. unplacedOf (co
 
 -- ---- placing
 
--- A plan with its answer.
-abbrev pub placedOf : ℕ → List Name → List Place → Placed → Plan
-placedOf count names places answer =
-    record { count = count; names = names; places = places; placed = true; side = answer .side; corners = answer .corners }
+-- A plan with its side and corners.
+abbrev pub placedOf : ℕ → List Name → List Place → Side → List ℕ → Plan
+placedOf count names places side corners =
+    record { count = count; names = names; places = places; placed = true; side = side; corners = corners }
 
--- The plan with the answer for its places is that of its sites, placed.
-pub holding-placed : {plan : Plan} {sites : List Site} → Holding plan sites → (answer : Placed)
-    → answer ≡ placedAs (answerOf (take (plan .count) (plan .places))) → placedOf (plan .count) (plan .names) (plan .places) answer ≡ placedPlan sites
-unfolding placedPlan
-holding-placed {plan} {sites} holding answer e = λ k. placedOf (holding .count k) (holding .names k) (holding .places k) (same k)
+-- The plan with the choice at a side for its places is that of its sites, placed there.
+pub holding-placed : {plan : Plan} {sites : List Site} → Holding plan sites → (side : Side) (choice : Choice)
+    → choice ≡ choiceAs (firstGood (judgedAt side) (take (plan .count) (plan .places)))
+    → placedOf (plan .count) (plan .names) (plan .places) side (choice .corners) ≡ placedWith sites (chosenAt side (placesOf sites))
+unfolding placedWith chosenAt
+holding-placed {plan} {sites} holding side choice e =
+    λ k. placedOf (holding .count k) (holding .names k) (holding .places k) side (same k .corners)
   where
-    same : answer ≡ placedAs (answerOf (placesOf sites))
-    same = e ∙ ap (λ (places : List Place). placedAs (answerOf places)) (holding-places holding)
+    same : choice ≡ choiceAs (firstGood (judgedAt side) (placesOf sites))
+    same = e ∙ ap (λ (places : List Place). choiceAs (firstGood (judgedAt side) places)) (holding-places holding)
+
+-- Whether there is one is the rules' too.
+pub holding-exists : {plan : Plan} {sites : List Site} → Holding plan sites → (side : Side) (choice : Choice)
+    → choice ≡ choiceAs (firstGood (judgedAt side) (take (plan .count) (plan .places))) → choice .exists ≡ existsAt side sites
+holding-exists holding side choice e =
+    ap (λ (c : Choice). c .exists) e ∙ ap (λ (places : List Place). isSome (firstGood (judgedAt side) places)) (holding-places holding)
 
 -- Its places may be placed, where there are some and the table has room.
 pub holding-may : {plan : Plan} {sites : List Site} → Holding plan sites → (table : List ℕ) → (plan .count ≡ 0 → ⊥)

@@ -1,41 +1,59 @@
--- Document 01, "Calls on a plan": the tables of placing, asking and writing, the value where a call is accepted, and the lent bytes
+-- Document 01, "Calls on a plan", with placing as document 02, L1, has split it: the tables of finding, choosing, asking and writing, the value where a call is accepted, and the lent bytes
 -- afterwards. Entering and reading stand in `List`; what start and count hand back, and which plans the calls hand back, in `calls/`.
 -- Assumes nothing.
-use mathlib.Core.Bool.{Bool, true, not, _&&_}
+use mathlib.Core.Bool.{Bool, not}
 use mathlib.Core.List.{List, [], _∷_, _++_}
 use Prim.Native.Nat.{ℕ, _*_}
 use lib.Dec.{leb, ltb, eqb}
 use lib.ListN.{length, drop, replicate}
 use Rattle.placing.specs.declared.units.Side.{Side}
-use Rattle.placing.specs.declared.units.Side.the-variants.{Number, Free}
-use Rattle.placing.specs.rules.Units.{greatestSide}
 use Rattle.placing.specs.rules.Choice.{cornerAt}
-use Rattle.placing.specs.rules.Answer.{Answer}
-use Rattle.plan.specs.declared.refusal.Refusal.the-variants.{NoSuchSite, NoSites, NotPlaced, ShortBuffer, ShortTable}
-use Rattle.plan.specs.rules.Refusal.{Test, _gives_, Result, accepted, refused, afterTests}
+use Rattle.placing.specs.rules.Answer.{Answer, isSide}
+use Rattle.plan.specs.declared.refusal.Refusal.the-variants.{BadNumber, NoSuchSite, NoSites, NotPlaced, ShortBuffer, ShortTable, NoGoodChoice}
+use Rattle.plan.specs.rules.Refusal.{Test, _gives_, Result, accepted, refused, after, afterTests}
 use Rattle.plan.specs.rules.List.{Site}
 
--- Document 02, L1: "A given side is from 1 to 20,000, or free."
-abbrev pub isSide : Side → Bool
-isSide (Number side) = leb 1 (side .0) && leb (side .0) greatestSide
-isSide Free = true
+-- Document 02, L1: "a side outside the range gives 3".
+abbrev pub outside : Side → Test
+outside side = not (isSide side) gives BadNumber
 
 -- "Placing a plan of no sites": n is the count.
 abbrev pub noSites : ℕ → Test
 noSites n = eqb n 0 gives NoSites
 
--- "Placing tests 8, 11": "the work table is shorter than n × n".
-abbrev pub placingTests : ℕ → List ℕ → List Test
-placingTests n table = noSites n ∷ ltb (length table) (n * n) gives ShortTable ∷ []
+-- "The work table is shorter than n × n": it has so many bytes.
+abbrev pub shortTable : (n bytes : ℕ) → Test
+shortTable n bytes = ltb bytes (n * n) gives ShortTable
 
--- The program places the list that it reads: 8 where it has no sites.
-abbrev pub toPlace : Result (List Site) → Result (List Site)
-toPlace (accepted sites) = afterTests (noSites (length sites) ∷ []) sites
-toPlace (refused why) = refused why
+-- L1: "12 where no good choice exists at the given side".
+abbrev pub noGood : Bool → Test
+noGood exists = not exists gives NoGoodChoice
 
--- "After placing, its first n × n bytes are zero and the others are untouched."
+-- "Placing tests 8, 11": so does finding the side.
+abbrev pub findingTests : (n bytes : ℕ) → List Test
+findingTests n bytes = noSites n ∷ shortTable n bytes ∷ []
+
+-- L1, choosing at a given side: 3 is "tested first", then 8 and 11; 12 is "tested after 11".
+abbrev pub choosingTests : Side → (n bytes : ℕ) → (exists : Bool) → List Test
+choosingTests side n bytes exists = outside side ∷ noSites n ∷ shortTable n bytes ∷ noGood exists ∷ []
+
+-- "After placing, its first n × n bytes are zero and the others are untouched." L1: "Both calls leave the work table as placing did, and
+-- 12, unlike other refusals, does so too": so it is after choosing unless one of the tests before 12 holds.
 abbrev pub cleared : ℕ → List ℕ → List ℕ
 cleared n table = replicate (n * n) 0 ++ drop (n * n) table
+
+abbrev pub beforeChoice : Side → (n bytes : ℕ) → List Test
+beforeChoice side n bytes = outside side ∷ findingTests n bytes
+
+-- The program finds the side of the list that it reads: 8 where it has no sites.
+abbrev pub toPlace : Result (List Site) → Result (List Site)
+toPlace read = after read (λ sites. afterTests (noSites (length sites) ∷ []) sites)
+
+-- At a given side it tests 3 before it reads, and 12 after 8.
+abbrev pub toPlaceAt : Side → (List Site → Bool) → Result (List Site) → Result (List Site)
+toPlaceAt side exists read =
+    after (afterTests (outside side ∷ []) read)
+    (λ listed. after listed (λ sites. afterTests (noSites (length sites) ∷ noGood (exists sites) ∷ []) sites))
 
 -- "Asking side or corner, or writing, while unplaced": 9.
 abbrev pub sideTests : Bool → List Test

@@ -11,7 +11,7 @@ use lib.ListN.{length, getD}
 use Rattle.placing.specs.declared.units.Place.{Place}
 use Rattle.placing.specs.rules.Units.{greatestCoordinate, mostSites, OnPlan, nowhere, along, X, Y, Distinct}
 use Rattle.plan.specs.declared.refusal.Refusal.{Refusal}
-use Rattle.plan.specs.declared.refusal.Refusal.the-variants.{BadLine, BadName, BadCoordinate, NameTaken, PlaceTaken, Full}
+use Rattle.plan.specs.declared.refusal.Refusal.the-variants.{BadLine, BadName, BadNumber, NameTaken, PlaceTaken, Full}
 use Rattle.plan.specs.rules.Refusal.{Test, _gives_, Result, accepted, refused, afterTests}
 use Rattle.plan.specs.rules.Text.{tab, lineFeed, Without, fieldsOf, numberIn, decimal, orZero, isName, sameBytes}
 
@@ -84,7 +84,7 @@ pub record Wanted : Type 0 where
 abbrev pub enterTests : List Site → Wanted → List Test
 enterTests sites wanted =
     not (wanted .named) gives BadName
-    ∷ not (wanted .in-range) gives BadCoordinate
+    ∷ not (wanted .in-range) gives BadNumber
     ∷ leb mostSites (length sites) gives Full
     ∷ nameTaken sites (wanted .site .name) gives NameTaken
     ∷ placeTaken sites (wanted .site .place) gives PlaceTaken

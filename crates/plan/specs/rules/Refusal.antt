@@ -1,11 +1,12 @@
--- Document 01, "Refused because of the input" and "Refused because of the state": the numbers, and how a table of tests decides.
+-- Document 01, "Refused because of the input" and "Refused because of the state", with document 02's number 12: the numbers, and how a
+-- table of tests decides.
 -- Assumes nothing.
 use mathlib.Core.Bool.{Bool, true, false}
 use mathlib.Core.List.{List, [], _∷_}
 use mathlib.Core.Option.{Option, some, none}
 use Prim.Native.Nat.{ℕ}
 use Rattle.plan.specs.declared.refusal.Refusal.{Refusal}
-use Rattle.plan.specs.declared.refusal.Refusal.the-variants.{BadLine, BadName, BadCoordinate, NameTaken, PlaceTaken, NoSuchSite, Full, NoSites, NotPlaced, ShortBuffer, ShortTable}
+use Rattle.plan.specs.declared.refusal.Refusal.the-variants.{BadLine, BadName, BadNumber, NameTaken, PlaceTaken, NoSuchSite, Full, NoSites, NotPlaced, ShortBuffer, ShortTable, NoGoodChoice}
 
 -- The number of each refusal.
 abbrev pub numberOf : Refusal → ℕ
@@ -13,8 +14,8 @@ abbrev pub numberOf : Refusal → ℕ
 numberOf BadLine = 1
 -- a name outside the rule
 numberOf BadName = 2
--- a coordinate outside the rule
-numberOf BadCoordinate = 3
+-- a coordinate outside the rule; of document 02, a side outside the range
+numberOf BadNumber = 3
 -- a name already in the plan
 numberOf NameTaken = 4
 -- a place already in the plan
@@ -31,6 +32,8 @@ numberOf NotPlaced = 9
 numberOf ShortBuffer = 10
 -- the work table is shorter than n × n
 numberOf ShortTable = 11
+-- of document 02: no good choice exists at the given side
+numberOf NoGoodChoice = 12
 
 -- A row of a call's table: a test, and the refusal that is given where it holds.
 pub record Test : Type 0 where
@@ -63,6 +66,11 @@ pub data Result (A : Type 0) : Type 0 where
 abbrev pub unless : {A : Type 0} → Option Refusal → A → Result A
 unless none value = accepted value
 unless (some why) value = refused why
+
+-- What comes of a call after another that was accepted.
+abbrev pub after : {A B : Type 0} → Result A → (A → Result B) → Result B
+after (accepted value) next = next value
+after (refused why) next = refused why
 
 -- "No refusal is given outside its condition": the value, unless a test of the table holds.
 abbrev pub afterTests : {A : Type 0} → List Test → A → Result A

@@ -9,7 +9,7 @@ use lib.ListN.{length, getD, drop}
 use Rattle.placing.specs.declared.units.Place.{Place}
 use Rattle.placing.specs.declared.units.Side.{Side}
 use Rattle.placing.specs.declared.units.Side.the-variants.{Number, Free}
-use Rattle.placing.specs.rules.Answer.{Answer}
+use Rattle.placing.specs.rules.Answer.{Answer, sideNumber}
 use Rattle.plan.specs.rules.Text.{tab, lineFeed, parted, fieldsOf, decimal, numberIn, sameBytes}
 use Rattle.plan.specs.rules.List.{Site, placeIn, listLine}
 
@@ -65,14 +65,22 @@ butLast (part ∷ next ∷ parts) = part ∷ butLast (next ∷ parts)
 abbrev pub linesOf : List ℕ → List (List ℕ)
 linesOf sheet = butLast (parted lineFeed sheet)
 
--- The number in the fields of a first line. None where the fields are others or the side is no number, as the word free.
-abbrev pub numberOnFields : List (List ℕ) → Option ℕ
-numberOnFields fields =
-    elim (eqb (length fields) 2 && sameBytes (getD fields 0 []) sideWord) [ true ↦ numberIn (getD fields 1 []) | false ↦ none ]
+-- The side in the fields of a first line. None where the fields are others or the second writes none.
+abbrev pub sideOnFields : List (List ℕ) → Option Side
+sideOnFields fields =
+    elim (eqb (length fields) 2 && sameBytes (getD fields 0 []) sideWord) [ true ↦ sideIn (getD fields 1 []) | false ↦ none ]
 
--- "Its number is the side it prints": the number on the first line, if one is written there.
+-- "The side it prints", on the first line.
+abbrev pub sideOn : List ℕ → Option Side
+sideOn sheet = sideOnFields (fieldsOf (getD (linesOf sheet) 0 []))
+
+-- "Its number is the side it prints": where that is a number, and not free.
+abbrev pub numberPrinted : Option Side → Option ℕ
+numberPrinted none = none
+numberPrinted (some side) = sideNumber side
+
 abbrev pub numberOn : List ℕ → Option ℕ
-numberOn sheet = numberOnFields (fieldsOf (getD (linesOf sheet) 0 []))
+numberOn sheet = numberPrinted (sideOn sheet)
 
 -- The place that each line writes. Where a second or third field is missing or no number it has a 0; no written sheet has such a line.
 unfoldable pub spotsOnLines : List (List ℕ) → List Place

@@ -1,27 +1,31 @@
 -- What each call tells, from the equation that its contract gives: demand 1, and the value that an answer carries.
 -- Assumes nothing.
 use mathlib.Core.Path.{_≡_, refl, sym, ap, _∙_, subst}
-use mathlib.Core.List.{List}
+use mathlib.Core.Bool.{Bool, true, false, not}
+use mathlib.Core.List.{List, [], _∷_}
+use mathlib.Core.Logic.{_⊎_, ⊎-elim}
 use mathlib.Core.Option.{Option, some, none}
-use Prim.Native.Nat.{ℕ, _*_, _≤_}
+use Prim.Native.Nat.{ℕ, _*_}
 use native.Mathlib.Omega.{arith}
-use borrow.Author.Tests.{ne-eqb, le-ltb}
+use borrow.Author.Tests.{ne-eqb}
+use lib.Dec.{eqb, ltb}
 use lib.ListN.{length}
 use Rattle.placing.specs.declared.units.Side.{Side}
 use Rattle.placing.specs.rules.Choice.{cornerAt}
-use Rattle.placing.specs.rules.Answer.{sideNumber}
-use Rattle.plan.specs.declared.refusal.Outcome.the-variants.{Done}
+use Rattle.placing.specs.rules.Answer.{isSide, sideNumber}
+use Rattle.placing.specs.deciding.Answer.{answerOf, chosenAt}
 use Rattle.plan.specs.declared.refusal.Refusal.{Refusal}
+use Rattle.plan.specs.declared.refusal.Refusal.the-variants.{BadNumber, NoSites, ShortTable, NoGoodChoice}
 use Rattle.plan.specs.declared.plan.Plan.{Plan}
 use Rattle.plan.specs.declared.plan.Planned.{Planned}
 use Rattle.plan.specs.declared.plan.AskedSide.{AskedSide}
 use Rattle.plan.specs.declared.plan.AskedCorner.{AskedCorner}
 use Rattle.plan.specs.declared.plan.Written.{Written}
-use Rattle.plan.specs.rules.Refusal.{numberOf, firstRefusal, refusalNumber, numberBy, unless}
-use Rattle.plan.specs.rules.List.{Site, Listed, enterTests, wantedAt}
-use Rattle.plan.specs.deciding.Output.{sheetOf}
-use Rattle.plan.specs.rules.Calls.{placingTests, cleared, sideTests, cornerTests, writeTests, filledWith, bytesAfter}
-use Rattle.plan.specs.calls.Plan.{unplacedPlan, placedPlan, sitesIn, Valid}
+use Rattle.plan.specs.rules.Refusal.{numberOf, _gives_, firstRefusal, refusalNumber, numberBy, unless}
+use Rattle.plan.specs.rules.List.{Site, placesOf, enterTests, wantedAt}
+use Rattle.plan.specs.deciding.Output.{existsAt}
+use Rattle.plan.specs.rules.Calls.{findingTests, cleared, sideTests, cornerTests, writeTests, filledWith, bytesAfter}
+use Rattle.plan.specs.calls.Plan.{unplacedPlan, placedWith, sitesIn, Valid}
 use Rattle.plan.specs.calls.Answers.{
   outcomeNumber,
   sideAskedNumber,
@@ -33,9 +37,12 @@ use Rattle.plan.specs.calls.Answers.{
   carriedAt,
   handed,
   enteredIn,
-  placedIn,
-  tableAfter,
+  foundIn,
+  tableFound,
+  chosenIn,
+  tableChosen,
   answerFor,
+  sheetFor,
   sideAnswer,
   sideAsked,
   cornerAnswer,
@@ -44,9 +51,8 @@ use Rattle.plan.specs.calls.Answers.{
   writtenIn,
   bufferAfter,
 }
-use Rattle.plan.specs.Demands.{Refuses, EnterTold, PlaceTold, SideTold, CornerTold, WriteTold}
+use Rattle.plan.specs.Demands.{Refuses, EnterTold, FindTold, ChooseTold, SideTold, CornerTold, WriteTold}
 use Rattle.plan.specs.theorems.Tables.{number-some}
-use Rattle.plan.specs.theorems.Plan.{sites-unplaced}
 
 -- A refusal carries no value.
 none-carried : {A : Type 0} (why : Refusal) (value : A) → carriedAt (numberOf why) value ≡ none
@@ -64,31 +70,59 @@ enter-told plan name x y both =
     by-first none more = record { number-is = refl; as-it-came = λ given. absurd (given refl) }
     by-first (some why) more = record { number-is = refl; as-it-came = λ given. refl }
 
--- Placing.
-pub place-told : {r : Planned} {after : List ℕ} (plan : Plan) (table : List ℕ) → r ≡ placedIn plan table → after ≡ tableAfter plan table
-    → PlaceTold plan table r after
-place-told plan table is left = rw (is, left) (by-first (firstRefusal (placingTests (plan .count) table)))
+-- Finding gives 8, 11, or the side; refused, it leaves the table as it came.
+pub find-told : {r : AskedSide} {after : List ℕ} (plan : Plan) (table : List ℕ) → r ≡ foundIn plan table → after ≡ tableFound plan table
+    → FindTold plan table r after
+    × (sideCarried r
+    ≡ carriedAt (numberBy (findingTests (plan .count) (length table))) (sideNumber (answerOf (placesOf (sitesIn plan)) .side)))
+find-told plan table is left =
+    rw (is, left) (by-first (firstRefusal (findingTests (plan .count) (length table))) (answerOf (placesOf (sitesIn plan)) .side))
   where
-    by-first : (first : Option Refusal)
-        → Refuses {Given = Plan × List ℕ} (outcomeNumber (handed placedPlan plan (unless first (sitesIn plan)) .outcome)) (refusalNumber first)
-        (plan, table)
-        (handed placedPlan plan (unless first (sitesIn plan)) .plan, bytesAfter (unless first (sitesIn plan)) (cleared (plan .count) table) table)
-    by-first none = record { number-is = refl; as-it-came = λ given. absurd (given refl) }
-    by-first (some why) = record { number-is = refl; as-it-came = λ given. refl }
+    by-first : (first : Option Refusal) (side : Side)
+        → Refuses (sideAskedNumber (sideAnswer (unless first side))) (refusalNumber first) table
+        (bytesAfter (unless first side) (cleared (plan .count) table) table)
+        × (sideCarried (sideAnswer (unless first side)) ≡ carriedAt (refusalNumber first) (sideNumber side))
+    by-first none side = (record { number-is = refl; as-it-came = λ given. absurd (given refl) }, refl)
+    by-first (some why) side = (record { number-is = refl; as-it-came = λ given. refl }, sym (none-carried why (sideNumber side)))
 
--- With some sites and room in the table, a plan is placed;
-pub placed-done : (plan : Plan) (table : List ℕ) → (plan .count ≡ 0 → ⊥) → plan .count * plan .count ≤ length table
-    → placedIn plan table ≡ record { outcome = Done; plan = placedPlan (sitesIn plan) }
-placed-done plan table some-sites room =
-    rw (ne-eqb (plan .count) 0 some-sites, le-ltb (length table) (plan .count * plan .count) room)
+-- Choosing gives 3, 8, 11, 12, or the placed plan. The tests before 12 come first: where one of them holds, the table is as it came.
+pub choose-told : {r : Planned} {after : List ℕ} (plan : Plan) (side : Side) (table : List ℕ) → r ≡ chosenIn plan side table
+    → after ≡ tableChosen plan side table → ChooseTold plan side table r after
+choose-told plan side table is left =
+    let told =
+    by-tests (not (isSide side)) (eqb (plan .count) 0) (ltb (length table) (plan .count * plan .count)) (not (existsAt side (sitesIn plan))) in
+    rw (is, left) (record { number-is = told .0; plan-kept = told .1; table-kept = told .2; table-cleared = told .3 })
+  where
+    came : Option Refusal → Planned
+    came first = handed (placedWith (sitesIn plan)) plan (unless first (chosenAt side (placesOf (sitesIn plan))))
 
--- so is the plan of some sites.
-pub unplaced-placed : (sites : List Site) (table : List ℕ) → Listed sites → 1 ≤ length sites → length sites * length sites ≤ length table
-    → placedIn (unplacedPlan sites) table ≡ record { outcome = Done; plan = placedPlan sites }
-unfolding unplacedPlan
-unplaced-placed sites table listed nonempty room =
-    placed-done (unplacedPlan sites) table (λ zero. omega arith) room
-    ∙ ap (λ (l : List Site). record { outcome = Done; plan = placedPlan l }) (sites-unplaced sites)
+    left-by : Option Refusal → List ℕ
+    left-by early = bytesAfter (unless early side) (cleared (plan .count) table) table
+
+    -- What is told, by the refusal of all tests and that of those before 12.
+    Told : (first early : Option Refusal) → Type 0
+    Told first early =
+        (outcomeNumber (came first .outcome) ≡ refusalNumber first)
+        × ((outcomeNumber (came first .outcome) ≡ 0 → ⊥) → came first .plan ≡ plan)
+        × ((outcomeNumber (came first .outcome) ≡ 0 → ⊥) → (outcomeNumber (came first .outcome) ≡ 12 → ⊥) → left-by early ≡ table)
+        × ((outcomeNumber (came first .outcome) ≡ 0) ⊎ (outcomeNumber (came first .outcome) ≡ 12) → left-by early ≡ cleared (plan .count) table)
+
+    early-told : (why : Refusal) → (numberOf why ≡ 12 → ⊥) → Told (some why) (some why)
+    early-told why other = (
+      refl,
+      λ given. refl,
+      λ given others. refl,
+      ⊎-elim (λ zero. absurd (omega (arith, number-some why, zero))) (λ twelve. absurd (other twelve)),
+    )
+
+    by-tests : (a b c d : Bool)
+        → Told (firstRefusal (a gives BadNumber ∷ b gives NoSites ∷ c gives ShortTable ∷ d gives NoGoodChoice ∷ []))
+        (firstRefusal (a gives BadNumber ∷ b gives NoSites ∷ c gives ShortTable ∷ []))
+    by-tests true b c d = early-told BadNumber (λ e. omega arith)
+    by-tests false true c d = early-told NoSites (λ e. omega arith)
+    by-tests false false true d = early-told ShortTable (λ e. omega arith)
+    by-tests false false false true = (refl, λ given. refl, λ given others. absurd (others refl), λ either. refl)
+    by-tests false false false false = (refl, λ given. absurd (given refl), λ given. absurd (given refl), λ either. refl)
 
 -- Asking the side gives 9, or the side.
 pub side-told : {r : AskedSide} (plan : Plan) → r ≡ sideAsked plan
@@ -118,9 +152,9 @@ corner-told plan i is =
 -- Writing: its number, the buffer, and the sheet's length where it is accepted.
 pub write-told : {r : Written} {after : List ℕ} (plan : Plan) (buffer : List ℕ) → r ≡ writtenIn plan buffer → after ≡ bufferAfter plan buffer
     → WriteTold plan buffer r after
-    × (writtenLength r ≡ carriedAt (numberBy (writeTests (plan .placed) (sheetOf (sitesIn plan)) buffer)) (length (sheetOf (sitesIn plan))))
+    × (writtenLength r ≡ carriedAt (numberBy (writeTests (plan .placed) (sheetFor plan) buffer)) (length (sheetFor plan)))
 write-told plan buffer is left =
-    rw (is, left) (by-first (firstRefusal (writeTests (plan .placed) (sheetOf (sitesIn plan)) buffer)) (sheetOf (sitesIn plan)))
+    rw (is, left) (by-first (firstRefusal (writeTests (plan .placed) (sheetFor plan) buffer)) (sheetFor plan))
   where
     by-first : (first : Option Refusal) (sheet : List ℕ)
         → Refuses (writtenNumber (writtenAnswer (unless first (length sheet)))) (refusalNumber first) buffer

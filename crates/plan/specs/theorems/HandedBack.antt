@@ -2,36 +2,40 @@
 -- plan it gets, and every call is proved to keep it." What the contracts ask is exactly that.
 -- Assumes nothing.
 use mathlib.Core.Path.{_≡_, refl, ap, _∙_, subst}
-use mathlib.Core.Bool.{true, false≢true}
 use mathlib.Core.List.{List, [], _∷_}
 use mathlib.Core.Option.{Option, some, none}
 use Prim.Native.Nat.{ℕ, _+_, _*_, _≤_}
 use native.Mathlib.Omega.{arith}
-use borrow.Author.Tests.{eqb-false}
+use borrow.Author.Tests.{eqb-false, not-false}
 use lib.ListN.{length, replicate, length-append, length-replicate}
+use Rattle.placing.specs.declared.units.Side.{Side}
+use Rattle.placing.specs.rules.Answer.{Answer, isSide}
+use Rattle.placing.specs.deciding.Answer.{chosenAt}
+use Rattle.placing.specs.theorems.Given.{chosen-is}
 use Rattle.plan.specs.declared.refusal.Outcome.the-variants.{Done}
 use Rattle.plan.specs.declared.refusal.Refusal.{Refusal}
 use Rattle.plan.specs.declared.plan.Plan.{Plan}
 use Rattle.plan.specs.declared.plan.Planned.{Planned}
-use Rattle.plan.specs.rules.Refusal.{firstRefusal, Result, accepted, refused, unless}
-use Rattle.plan.specs.rules.List.{Site, Listed, listText, entered, wantedAt}
-use Rattle.plan.specs.rules.Calls.{placingTests}
+use Rattle.plan.specs.rules.Refusal.{Test, firstRefusal, Result, accepted, refused, unless}
+use Rattle.plan.specs.rules.List.{Site, placesOf, Listed, listText, entered, wantedAt}
+use Rattle.plan.specs.rules.Calls.{choosingTests}
+use Rattle.plan.specs.deciding.Output.{existsAt}
 use Rattle.plan.specs.deciding.Reading.{readList, readWithin}
-use Rattle.plan.specs.calls.Plan.{unplacedPlan, placedPlan, sitesIn, Valid, is-unplaced, is-placed}
-use Rattle.plan.specs.calls.Answers.{started, handed, enteredIn, readFrom, placedIn, counted}
+use Rattle.plan.specs.calls.Plan.{unplacedPlan, placedWith, sitesIn, Valid, is-unplaced, is-placed}
+use Rattle.plan.specs.calls.Answers.{started, handed, enteredIn, readFrom, chosenIn, counted}
 use Rattle.plan.specs.theorems.Tables.{rows-none}
 use Rattle.plan.specs.theorems.Sites.{listed-none}
 use Rattle.plan.specs.theorems.Entering.{entered-passed, entered-listed}
 use Rattle.plan.specs.theorems.Reading.{read-listed, list-read}
-use Rattle.plan.specs.theorems.Plan.{sites-unplaced, sites-placed, Holding, valid-holding}
-use Rattle.plan.specs.theorems.Calls.{placed-done, unplaced-placed}
+use Rattle.plan.specs.theorems.Plan.{sites-unplaced, sites-placed, Holding, holding-unplaced, valid-holding}
+use Rattle.plan.specs.theorems.Choosing.{placed-by}
 
--- A plan that some run of the calls hands back. Side, corner, count and write hand none back.
+-- A plan that some run of the calls hands back. Find, side, corner, count and write hand none back.
 pub data HandedBack : Plan → Type 0 where
   by-start : HandedBack started
   by-enter : {plan : Plan} (name : List ℕ) (x y : ℕ) → HandedBack plan → HandedBack (enteredIn plan name x y .plan)
   by-read : (text : List ℕ) → HandedBack (readFrom text .plan)
-  by-place : {plan : Plan} (table : List ℕ) → HandedBack plan → HandedBack (placedIn plan table .plan)
+  by-choose : {plan : Plan} (side : Side) (table : List ℕ) → HandedBack plan → HandedBack (chosenIn plan side table .plan)
 
 -- ---- every valid plan is handed back
 
@@ -49,14 +53,16 @@ unplaced-handed : (sites : List Site) → Listed sites → HandedBack (unplacedP
 unplaced-handed sites listed =
     subst HandedBack (ap (λ (p : Planned). p .plan) (list-planned sites listed)) (by-read (listText sites))
 
--- and so it is once it is placed.
+-- and so it is once it is placed, at whatever side.
 pub valid-handed : {plan : Plan} → Valid plan → HandedBack plan
+unfolding unplacedPlan
 valid-handed (is-unplaced sites listed) = unplaced-handed sites listed
-valid-handed (is-placed sites listed nonempty) =
+valid-handed (is-placed sites answer listed nonempty chosen) =
     let table : List ℕ = replicate (length sites * length sites) 0 in
     let room : length sites * length sites ≤ length table = omega (arith, length-replicate {A = ℕ} (length sites * length sites) 0) in
-    subst HandedBack (ap (λ (p : Planned). p .plan) (unplaced-placed sites table listed nonempty room))
-    (by-place table (unplaced-handed sites listed))
+    subst HandedBack
+    (ap (λ (p : Planned). p .plan) (placed-by answer table (holding-unplaced listed) (sites-unplaced sites) nonempty room chosen))
+    (by-choose (answer .side) table (unplaced-handed sites listed))
 
 -- ---- every plan that is handed back is valid
 
@@ -76,37 +82,32 @@ read-valid text = by-sites (readList text) refl
     by-sites (accepted sites) is = is-unplaced sites (read-listed text sites is)
     by-sites (refused why) is = is-unplaced [] listed-none
 
--- Placing keeps a plan valid.
-place-valid : {plan : Plan} (table : List ℕ) → Valid plan → Valid (placedIn plan table .plan)
-place-valid {plan} table valid = by-first (firstRefusal (placingTests (plan .count) table)) refl
+-- Choosing keeps a plan valid.
+choose-valid : {plan : Plan} (side : Side) (table : List ℕ) → Valid plan → Valid (chosenIn plan side table .plan)
+choose-valid {plan} side table valid = by-first (firstRefusal tests) refl
   where
     holding : Holding plan (sitesIn plan)
     holding = valid-holding valid
 
-    by-first : (first : Option Refusal) → firstRefusal (placingTests (plan .count) table) ≡ first
-        → Valid (handed placedPlan plan (unless first (sitesIn plan)) .plan)
+    tests : List Test
+    tests = choosingTests side (plan .count) (length table) (existsAt side (sitesIn plan))
+
+    by-first : (first : Option Refusal) → firstRefusal tests ≡ first
+        → Valid (handed (placedWith (sitesIn plan)) plan (unless first (chosenAt side (placesOf (sitesIn plan)))) .plan)
     by-first (some why) is = valid
     by-first none is =
-        let some-sites = eqb-false (plan .count) 0 (rows-none (placingTests (plan .count) table) is .none-holds 0 (omega arith)) in
-        is-placed (sitesIn plan) (holding .listed) (omega (arith, holding .count))
+        let none-holds = rows-none tests is .none-holds in
+        let some-sites = eqb-false (plan .count) 0 (none-holds 1 (omega arith)) in
+        is-placed (sitesIn plan) (chosenAt side (placesOf (sitesIn plan))) (holding .listed) (omega (arith, holding .count))
+        (chosen-is (placesOf (sitesIn plan)) side (not-false (isSide side) (none-holds 0 (omega arith)))
+        (not-false (existsAt side (sitesIn plan)) (none-holds 3 (omega arith))))
 
 -- So every run of the calls does.
 pub handed-valid : {plan : Plan} → HandedBack plan → Valid plan
 handed-valid by-start = is-unplaced [] listed-none
 handed-valid (by-enter name x y before) = enter-valid name x y (handed-valid before)
 handed-valid (by-read text) = read-valid text
-handed-valid (by-place table before) = place-valid table (handed-valid before)
-
--- ---- placing again
-
--- "Placing a placed plan gives the same answer again": the same plan.
-pub placed-again : {plan : Plan} (table : List ℕ) → Valid plan → plan .placed ≡ true → plan .count * plan .count ≤ length table
-    → placedIn plan table ≡ record { outcome = Done; plan = plan }
-unfolding unplacedPlan placedPlan
-placed-again table (is-unplaced sites listed) is-so room = absurd (false≢true is-so)
-placed-again table (is-placed sites listed nonempty) is-so room =
-    placed-done (placedPlan sites) table (λ none. omega arith) room
-    ∙ ap (λ (l : List Site). record { outcome = Done; plan = placedPlan l }) (sites-placed sites)
+handed-valid (by-choose side table before) = choose-valid side table (handed-valid before)
 
 -- ---- the count is the number of sites entered
 
@@ -119,13 +120,15 @@ pub read-counted : (text : List ℕ) (sites : List Site) → readList text ≡ a
 read-counted text sites is =
     ap (λ (read : Result (List Site)). counted (handed unplacedPlan started read .plan)) is ∙ ap length (sites-unplaced sites)
 
--- Placing keeps them.
-pub placed-counted : (plan : Plan) (table : List ℕ) → counted (placedIn plan table .plan) ≡ counted plan
-placed-counted plan table = by-first (firstRefusal (placingTests (plan .count) table))
+-- Choosing keeps them.
+pub chosen-counted : (plan : Plan) (side : Side) (table : List ℕ) → counted (chosenIn plan side table .plan) ≡ counted plan
+chosen-counted plan side table =
+    by-first (firstRefusal (choosingTests side (plan .count) (length table) (existsAt side (sitesIn plan)))) (chosenAt side (placesOf (sitesIn plan)))
   where
-    by-first : (first : Option Refusal) → counted (handed placedPlan plan (unless first (sitesIn plan)) .plan) ≡ counted plan
-    by-first (some why) = refl
-    by-first none = ap length (sites-placed (sitesIn plan))
+    by-first : (first : Option Refusal) (answer : Answer)
+        → counted (handed (placedWith (sitesIn plan)) plan (unless first answer) .plan) ≡ counted plan
+    by-first (some why) answer = refl
+    by-first none answer = ap length (sites-placed (sitesIn plan) answer)
 
 -- Sites that a site was entered into are one more.
 pub entered-more : (sites : List Site) (name : List ℕ) (x y : ℕ) {more : List Site} → entered sites (wantedAt name x y) ≡ accepted more

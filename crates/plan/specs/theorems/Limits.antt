@@ -5,7 +5,7 @@ use mathlib.Core.Path.{_≡_, refl}
 use Rattle.placing.specs.rules.Units.{mostSites, greatestCoordinate, greatestSide, freeSide}
 use Rattle.plan.specs.rules.Text.{mostNameBytes}
 use Rattle.plan.specs.rules.List.{mostLineBytes, longestText}
-use Rattle.plan.specs.calls.Lengths.{fullTable, longestSheet, shortestSheet}
+use Rattle.plan.specs.calls.Lengths.{fullTable, longestSheet, shortestSheet, shortestSheetAt}
 
 -- Document 01's.
 pub limits-given : (mostSites ≡ 240) × (greatestCoordinate ≡ 10000) × (greatestSide ≡ 20000) × (freeSide ≡ 20001) × (mostNameBytes ≡ 8)
@@ -13,5 +13,5 @@ pub limits-given : (mostSites ≡ 240) × (greatestCoordinate ≡ 10000) × (gre
 limits-given = (refl, refl, refl, refl, refl, refl, refl)
 
 -- The work table of a full plan, and the bytes of a sheet.
-pub limits-following : (fullTable ≡ 57600) × (longestSheet ≡ 5531) × (shortestSheet ≡ 18)
-limits-following = (refl, refl, refl)
+pub limits-following : (fullTable ≡ 57600) × (longestSheet ≡ 5531) × (shortestSheet ≡ 18) × (shortestSheetAt ≡ 15)
+limits-following = (refl, refl, refl, refl)

@@ -11,14 +11,15 @@ use borrow.Author.Tests.{lt-ltb}
 use lib.ListN.{length, take, length-append}
 use lib.Seq.{append-snoc, take-append-add, take-append-le, take-all}
 use Rattle.placing.specs.rules.Units.{mostSites}
+use Rattle.placing.specs.declared.units.Side.{Side}
 use Rattle.plan.specs.declared.refusal.Refusal.{Refusal}
 use Rattle.plan.specs.declared.refusal.Refusal.the-variants.{BadLine}
 use Rattle.plan.specs.rules.Refusal.{Result, refused}
 use Rattle.plan.specs.rules.Text.{lineFeed, Without}
 use Rattle.plan.specs.rules.List.{Site, Listed, listLine, listText, mostLineBytes, longestText, lineEntered}
 use Rattle.plan.specs.rules.List.{TextLine, FirstLine, with-feed, without-feed, Reads, end, refused-line, accepted-line}
-use Rattle.plan.specs.rules.Calls.{toPlace}
-use Rattle.plan.specs.deciding.Output.{outputFor, outputOf}
+use Rattle.plan.specs.rules.Calls.{toPlace, toPlaceAt}
+use Rattle.plan.specs.deciding.Output.{sheetOf, sheetAt, outputFor, outputOf, existsAt, outputAt}
 use Rattle.plan.specs.deciding.Reading.{readList}
 use Rattle.plan.specs.Demands.{FirstRefused}
 use Rattle.plan.specs.theorems.Tables.{refused-not-accepted}
@@ -95,15 +96,24 @@ longer-refused text long =
     let (why, refuses, reads) = long-refused (reads-list text) longestText mostSites (omega arith) (omega arith) (omega arith) in
     (why, refuses, reads-are reads)
 
--- Whatever its length, a text has the output of its first 5,061 bytes: of an input of which only these are read, they decide the output.
+-- Whatever its length, a text is read as its first 5,061 bytes are, and has their output: of an input of which only these are read, they
+-- decide the output.
+pub read-first : (input read : List ℕ) → take longestText input ≡ read → readList read ≡ readList input
+read-first input read is = ap readList (sym is) ∙ by-length (decLe longestText (length input))
+  where
+    by-length : Dec (longestText ≤ length input) → readList (take longestText input) ≡ readList input
+    by-length (yes long) = let both = longer-refused input long in both .2 ∙ sym (both .1)
+    by-length (no short) = ap readList (take-all longestText input (omega arith))
+
 pub output-first : (input read : List ℕ) → take longestText input ≡ read → outputOf read ≡ outputOf input
 unfolding outputOf
-output-first input read is = ap outputOf (sym is) ∙ by-length (decLe longestText (length input))
-  where
-    by-length : Dec (longestText ≤ length input) → outputOf (take longestText input) ≡ outputOf input
-    by-length (yes long) =
-        let both = longer-refused input long in ap (λ (r : Result (List Site)). outputFor (toPlace r)) (both .2 ∙ sym (both .1))
-    by-length (no short) = ap outputOf (take-all longestText input (omega arith))
+output-first input read is = ap (λ (r : Result (List Site)). outputFor sheetOf (toPlace r)) (read-first input read is)
+
+-- So it does at a given side.
+pub output-first-at : (side : Side) (input read : List ℕ) → take longestText input ≡ read → outputAt side read ≡ outputAt side input
+unfolding outputAt
+output-first-at side input read is =
+    ap (λ (r : Result (List Site)). outputFor (sheetAt side) (toPlaceAt side (existsAt side) r)) (read-first input read is)
 
 -- ---- its first refused line
 

@@ -2,23 +2,31 @@
 -- within the array that it is put into.
 -- Assumes nothing.
 use mathlib.Core.Path.{_≡_, refl, sym, ap, _∙_, subst}
+use mathlib.Core.Bool.{Bool, true, false, not, true≢false}
 use mathlib.Core.List.{List, [], _∷_}
+use mathlib.Core.Option.{some, none}
 use Prim.Native.Nat.{ℕ, _≤_}
 use native.Mathlib.Omega.{arith}
+use borrow.Author.Tests.{ne-eqb}
 use lib.ListN.{length, drop, length-append}
-use Rattle.placing.specs.deciding.Answer.{answerOf}
-use Rattle.placing.specs.theorems.Answer.{answer-is}
+use Rattle.placing.specs.declared.units.Place.{Place}
+use Rattle.placing.specs.declared.units.Side.{Side}
+use Rattle.placing.specs.rules.Answer.{Answer, isSide, IsAnswer, IsChosen}
+use Rattle.placing.specs.deciding.Answer.{answerOf, chosenAt}
+use Rattle.placing.specs.theorems.Answer.{answer-is, is-answer-of}
+use Rattle.placing.specs.theorems.Given.{answer-chosen, chosen-answer, chosen-is, some-found}
 use Rattle.plan.specs.declared.plan.Planned.{Planned}
 use Rattle.plan.specs.declared.refusal.Refusal.{Refusal}
+use Rattle.plan.specs.declared.refusal.Refusal.the-variants.{BadNumber, NoGoodChoice}
 use Rattle.plan.specs.rules.Text.{decimal}
-use Rattle.plan.specs.rules.Refusal.{numberOf, Result, accepted, refused}
+use Rattle.plan.specs.rules.Refusal.{numberOf, Result, accepted, refused, unless, after, afterTests}
 use Rattle.plan.specs.rules.List.{Site, placesOf, Listed, listText}
-use Rattle.plan.specs.rules.Sheet.{refusalLine}
-use Rattle.plan.specs.deciding.Output.{sheetOf, outputFor, outputOf}
-use Rattle.plan.specs.rules.Calls.{filledWith, toPlace}
+use Rattle.plan.specs.rules.Sheet.{sheetWith, sideOn, carried, refusalLine}
+use Rattle.plan.specs.deciding.Output.{sheetOf, sheetAt, outputFor, outputOf, existsAt, outputAt}
+use Rattle.plan.specs.rules.Calls.{noSites, noGood, filledWith, toPlace, toPlaceAt}
 use Rattle.plan.specs.deciding.Reading.{readList}
 use Rattle.plan.specs.calls.Plan.{placedPlan}
-use Rattle.plan.specs.calls.Answers.{started, handed, listPlaced}
+use Rattle.plan.specs.calls.Answers.{started, handed, listPlaced, placedAt, listPlacedAt}
 use Rattle.plan.specs.Demands.{
   Accepts,
   ListRefused,
@@ -27,32 +35,89 @@ use Rattle.plan.specs.Demands.{
   ListTold,
   list-refused,
   list-placed,
+  RefusedAt,
+  out-of-range,
+  refused-list,
+  none-good,
+  ListToldAt,
+  refused-at,
+  placed-at,
   RightSheet,
+  PrintsFound,
+  PlacedSheet,
   SheetFor,
   Answered,
   refusal-line,
   list-sheet,
+  SheetForAt,
+  AnsweredAt,
+  refusal-at,
+  sheet-at,
 }
 use Rattle.plan.specs.theorems.Text.{decimal-short}
 use Rattle.plan.specs.theorems.Tables.{number-small}
 use Rattle.plan.specs.theorems.Reading.{reads-are, reads-so, read-listed, read-list, read-condition}
-use Rattle.plan.specs.theorems.Sheet.{sheet-longest, some-to-place}
+use Rattle.plan.specs.theorems.Sheet.{chosen-lined, answer-listed, sheet-longest, some-to-place}
 use Rattle.plan.specs.calls.Lengths.{mostDigits, longestSheet, longestRefusalLine}
-use Rattle.plan.specs.theorems.ReadOff.{sheet-carries, sheet-again, no-rival, number-read, spots-on-sheet}
+use Rattle.plan.specs.theorems.ReadOff.{sheet-carries, sheet-again, sheet-again-at, no-rival, side-on-sheet, number-read, spots-on-sheet}
 
 -- Demands 2 and 3 of the sheet of some sites.
 pub sheet-right : (sites : List Site) → Listed sites → 1 ≤ length sites → RightSheet sites (sheetOf sites)
 unfolding sheetOf
 sheet-right sites listed some-sites =
+    let answer = answerOf (placesOf sites) in
+    let is-answer = answer-is (placesOf sites) (listed .places-distinct) in
+    let each = chosen-lined sites listed (answer-listed sites listed) in
     record {
-      answer = answerOf (placesOf sites);
-      is-answer = answer-is (placesOf sites) (listed .places-distinct);
+      answer = answer;
+      is-answer = is-answer;
       prints = refl;
-      number = number-read sites listed;
-      spots = spots-on-sheet sites listed;
-      list = sheet-carries sites listed;
+      number = number-read answer each;
+      spots = spots-on-sheet answer each;
+      list = sheet-carries answer each;
       again = sheet-again sites listed some-sites;
-      no-rival = no-rival sites listed;
+      no-rival = no-rival is-answer each;
+    }
+
+-- A sheet that prints the side found for its spots is that sheet.
+prints-found : {a : Answer} (sites : List Site) → Listed sites → IsChosen (placesOf sites) a → PrintsFound (sheetWith sites a)
+    → sheetWith sites a ≡ sheetOf sites
+unfolding sheetOf
+prints-found {a} sites listed chosen prints =
+    let each = chosen-lined sites listed chosen in
+    let is : IsAnswer (placesOf sites) (prints .found) = subst (λ (ps : List Place). IsAnswer ps (prints .found)) (spots-on-sheet a each) (prints .is-answer) in
+    let side : some (a .side) ≡ some (prints .found .side) = sym (side-on-sheet a each) ∙ prints .printed in
+    let same : a .side ≡ prints .found .side = cc in
+    ap (sheetWith sites) (chosen-answer is chosen same ∙ is-answer-of (listed .places-distinct) is)
+
+-- The sheet of some sites at a side.
+pub sheet-placed : {a : Answer} (sites : List Site) → Listed sites → 1 ≤ length sites → IsChosen (placesOf sites) a
+    → PlacedSheet sites (a .side) (sheetWith sites a)
+sheet-placed {a} sites listed some-sites chosen =
+    let each = chosen-lined sites listed chosen in
+    record {
+      corners = a .corners;
+      is-chosen = chosen;
+      prints = refl;
+      side-on = side-on-sheet a each;
+      spots = spots-on-sheet a each;
+      list = sheet-carries a each;
+      again = λ printed is.
+          let side : some (a .side) ≡ some printed = sym (side-on-sheet a each) ∙ is in
+          let same : a .side ≡ printed = cc in
+          subst (λ (s : Side). outputAt s (carried (sheetWith sites a)) ≡ sheetWith sites a) same (sheet-again-at sites listed some-sites chosen);
+      at-found = λ prints.
+          subst (RightSheet sites) (sym (prints-found sites listed chosen prints)) (sheet-right sites listed some-sites);
+    }
+
+-- The condition is met by every right sheet, and so by every output of the program that is a sheet.
+pub right-found : {sites : List Site} {sheet : List ℕ} → Listed sites → RightSheet sites sheet → PrintsFound sheet
+right-found {sites} listed right =
+    let each = chosen-lined sites listed (answer-chosen (right .is-answer)) in
+    record {
+      found = right .answer;
+      is-answer = subst (λ (ps : List Place). IsAnswer ps (right .answer)) (sym (right .spots)) (right .is-answer);
+      printed = ap sideOn (right .prints) ∙ side-on-sheet (right .answer) each;
     }
 
 -- A list that is accepted has that sheet, and the sheet carries the list.
@@ -63,7 +128,20 @@ sheet-for text sites accepts =
       sites = sites;
       accepts = accepts;
       right = sheet-right sites listed (accepts .some-sites);
-      gives-back = sheet-carries sites listed ∙ read-list text sites (reads-are (accepts .read));
+      gives-back =
+          sheet-right sites listed (accepts .some-sites) .list ∙ read-list text sites (reads-are (accepts .read));
+    }
+
+-- At a side too.
+pub sheet-for-at : {a : Answer} (text : List ℕ) (sites : List Site) → Accepts text sites → IsChosen (placesOf sites) a
+    → SheetForAt (a .side) text (sheetWith sites a)
+sheet-for-at text sites accepts chosen =
+    let placed = sheet-placed sites (read-listed text sites (reads-are (accepts .read))) (accepts .some-sites) chosen in
+    record {
+      sites = sites;
+      accepts = accepts;
+      placed = placed;
+      gives-back = placed .list ∙ read-list text sites (reads-are (accepts .read));
     }
 
 -- An empty text alone has no sites.
@@ -74,7 +152,7 @@ none-refused text read = no-sites (sym (read-list text [] read))
 -- What is to be placed of a text: refused with a number, or accepted.
 pub data ToPlace (text : List ℕ) : Result (List Site) → Type 0 where
   not-placed : {why : Refusal} → ListRefused text (numberOf why) → ToPlace text (refused why)
-  is-placed : {sites : List Site} → Accepts text sites → ToPlace text (accepted sites)
+  to-be-placed : {sites : List Site} → Accepts text sites → ToPlace text (accepted sites)
 
 pub text-to-place : (text : List ℕ) → ToPlace text (toPlace (readList text))
 text-to-place text = by-sites (readList text) refl
@@ -82,7 +160,7 @@ text-to-place text = by-sites (readList text) refl
     by-sites : (sites : Result (List Site)) → readList text ≡ sites → ToPlace text (toPlace sites)
     by-sites (accepted []) read = not-placed (none-refused text read)
     by-sites (accepted (site ∷ sites)) read =
-        rw (some-to-place (site ∷ sites) (omega arith)) (is-placed (record { read = reads-so read; some-sites = omega arith }))
+        rw (some-to-place (site ∷ sites) (omega arith)) (to-be-placed (record { read = reads-so read; some-sites = omega arith }))
     by-sites (refused why) read = not-placed (at-line (read-condition text why read))
 
 -- The output for every text is the line with its number, or its sheet.
@@ -90,9 +168,9 @@ pub output-answered : (text : List ℕ) → Answered text (outputOf text)
 unfolding outputOf
 output-answered text = by-sites (text-to-place text)
   where
-    by-sites : {sites : Result (List Site)} → ToPlace text sites → Answered text (outputFor sites)
+    by-sites : {sites : Result (List Site)} → ToPlace text sites → Answered text (outputFor sheetOf sites)
     by-sites (not-placed reason) = refusal-line reason refl
-    by-sites (is-placed {sites} accepts) = list-sheet (sheet-for text sites accepts)
+    by-sites (to-be-placed {sites} accepts) = list-sheet (sheet-for text sites accepts)
 
 -- Reading and placing it tells the same.
 pub list-told : (text : List ℕ) {r : Planned} → r ≡ listPlaced text → ListTold text r
@@ -100,7 +178,59 @@ list-told text is = subst (ListTold text) (sym is) (by-sites (text-to-place text
   where
     by-sites : {sites : Result (List Site)} → ToPlace text sites → ListTold text (handed placedPlan started sites)
     by-sites (not-placed reason) = list-refused reason refl
-    by-sites (is-placed {sites} accepts) = list-placed sites accepts refl refl
+    by-sites (to-be-placed {sites} accepts) = list-placed sites accepts refl refl
+
+-- ---- at a given side
+
+-- What is to be placed of a text at a given side: refused with a number, or chosen.
+pub data ToPlaceAt (side : Side) (text : List ℕ) : Result (List Site) → Type 0 where
+  not-placed-at : {why : Refusal} → RefusedAt side text (numberOf why) → ToPlaceAt side text (refused why)
+  is-placed-at : {sites : List Site} → Accepts text sites → IsChosen (placesOf sites) (chosenAt side (placesOf sites))
+      → ToPlaceAt side text (accepted sites)
+
+pub text-to-place-at : (side : Side) (text : List ℕ) → ToPlaceAt side text (toPlaceAt side (existsAt side) (readList text))
+text-to-place-at side text = by-side (isSide side) refl
+  where
+    by-choice : isSide side ≡ true → (sites : List Site) → Accepts text sites → (exists : Bool) → existsAt side sites ≡ exists
+        → ToPlaceAt side text (unless (elim (not exists) [ true ↦ some NoGoodChoice | false ↦ none ]) sites)
+    by-choice given sites accepts true there = is-placed-at accepts (chosen-is (placesOf sites) side given there)
+    by-choice given sites accepts false there =
+        not-placed-at (none-good given sites accepts (λ some-good. true≢false (sym (some-found some-good) ∙ there)))
+
+    by-sites : isSide side ≡ true → (read : Result (List Site)) → readList text ≡ read
+        → ToPlaceAt side text (after read (λ sites. afterTests (noSites (length sites) ∷ noGood (existsAt side sites) ∷ []) sites))
+    by-sites given (accepted []) read = not-placed-at (refused-list given (none-refused text read))
+    by-sites given (accepted (site ∷ sites)) read =
+        rw (ne-eqb (length (site ∷ sites)) 0 (λ zero. omega arith))
+        (by-choice given (site ∷ sites) (record { read = reads-so read; some-sites = omega arith }) (existsAt side (site ∷ sites)) refl)
+    by-sites given (refused why) read = not-placed-at (refused-list given (at-line (read-condition text why read)))
+
+    by-side : (given : Bool) → isSide side ≡ given
+        → ToPlaceAt side text
+        (after (unless (elim (not given) [ true ↦ some BadNumber | false ↦ none ]) (readList text))
+        (λ listed. after listed (λ sites. afterTests (noSites (length sites) ∷ noGood (existsAt side sites) ∷ []) sites)))
+    by-side true given = by-sites given (readList text) refl
+    by-side false given = not-placed-at (out-of-range given)
+
+-- The output for every text at a given side is the line with its number, or its sheet.
+pub output-answered-at : (side : Side) (text : List ℕ) → AnsweredAt side text (outputAt side text)
+unfolding outputAt sheetAt chosenAt
+output-answered-at side text = by-sites (text-to-place-at side text)
+  where
+    by-sites : {sites : Result (List Site)} → ToPlaceAt side text sites → AnsweredAt side text (outputFor (sheetAt side) sites)
+    by-sites (not-placed-at reason) = refusal-at reason refl
+    by-sites (is-placed-at {sites} accepts chosen) = sheet-at (sheet-for-at text sites accepts chosen)
+
+-- Reading and choosing tells the same.
+pub list-told-at : (side : Side) (text : List ℕ) {r : Planned} → r ≡ listPlacedAt side text → ListToldAt side text r
+unfolding chosenAt
+list-told-at side text is = subst (ListToldAt side text) (sym is) (by-sites (text-to-place-at side text))
+  where
+    by-sites : {sites : Result (List Site)} → ToPlaceAt side text sites → ListToldAt side text (handed (placedAt side) started sites)
+    by-sites (not-placed-at reason) = refused-at reason refl
+    by-sites (is-placed-at {sites} accepts chosen) = placed-at sites (chosenAt side (placesOf sites) .corners) accepts chosen refl refl
+
+-- ---- how long an output is
 
 -- The number of a refusal is written in at most five digits, and its line has the word refused, a tab, so many and a line feed.
 pub number-short : (why : Refusal) → length (decimal (numberOf why)) ≤ mostDigits
@@ -111,15 +241,23 @@ refusal-short why = simp length-append (omega (arith, number-short why))
 
 -- The longest output is a sheet.
 pub output-longest : (text : List ℕ) → length (outputOf text) ≤ longestSheet
-unfolding outputOf
+unfolding outputOf sheetOf
 output-longest text = by-sites (text-to-place text)
   where
-    by-sites : {sites : Result (List Site)} → ToPlace text sites → length (outputFor sites) ≤ longestSheet
+    by-sites : {sites : Result (List Site)} → ToPlace text sites → length (outputFor sheetOf sites) ≤ longestSheet
     by-sites (not-placed {why} reason) = omega (arith, refusal-short why)
-    by-sites (is-placed {sites} accepts) = sheet-longest sites (read-listed text sites (reads-are (accepts .read)))
+    by-sites (to-be-placed {sites} accepts) =
+        let listed = read-listed text sites (reads-are (accepts .read)) in sheet-longest sites listed (answer-listed sites listed)
+
+pub output-longest-at : (side : Side) (text : List ℕ) → length (outputAt side text) ≤ longestSheet
+unfolding outputAt sheetAt
+output-longest-at side text = by-sites (text-to-place-at side text)
+  where
+    by-sites : {sites : Result (List Site)} → ToPlaceAt side text sites → length (outputFor (sheetAt side) sites) ≤ longestSheet
+    by-sites (not-placed-at {why} reason) = omega (arith, refusal-short why)
+    by-sites (is-placed-at {sites} accepts chosen) = sheet-longest sites (read-listed text sites (reads-are (accepts .read))) chosen
 
 -- What is put into an array lies within it.
-pub output-within : {n : ℕ} {after : List ℕ} (text buffer : List ℕ) → n ≡ length (outputOf text)
-    → after ≡ filledWith (outputOf text) buffer → n ≤ length after
-output-within text buffer size is =
-    omega (arith, ap length is, length-append (outputOf text) (drop (length (outputOf text)) buffer))
+pub output-within : {n : ℕ} {after : List ℕ} (output buffer : List ℕ) → n ≡ length output → after ≡ filledWith output buffer
+    → n ≤ length after
+output-within output buffer size is = omega (arith, ap length is, length-append output (drop (length output) buffer))

@@ -1,21 +1,21 @@
 -- Laws of the plan's record: the sites that it holds, and the answer that a placed plan holds.
 -- Assumes nothing.
-use mathlib.Core.Path.{_≡_, refl, sym, ap, ap₂, _∙_}
+use mathlib.Core.Path.{_≡_, refl, sym, ap, ap₂, _∙_, subst}
 use mathlib.Core.Bool.{true, false≢true}
 use mathlib.Core.List.{List, [], _∷_, map}
 use Prim.Native.Nat.{ℕ, _-_, _<_}
 use lib.ListN.{length, getD, take, replicate, length-map}
 use lib.Seq.{take-append-seam, take-at, getD-take}
-use Rattle.placing.specs.rules.Units.{nowhere, mostSites, Distinct}
+use Rattle.placing.specs.rules.Units.{nowhere, mostSites}
 use Rattle.placing.specs.rules.Choice.{cornerAt}
-use Rattle.placing.specs.rules.Answer.{Answer}
-use Rattle.placing.specs.deciding.Answer.{answerOf}
-use Rattle.placing.specs.theorems.Answer.{answer-is}
+use Rattle.placing.specs.rules.Answer.{Answer, IsChosen}
+use Rattle.placing.specs.theorems.Given.{is-chosen-at}
 use Rattle.plan.specs.declared.plan.Plan.{Plan}
 use Rattle.plan.specs.rules.Text.{mostNameBytes}
 use Rattle.plan.specs.rules.List.{Site, placeOf, placesOf, Listed}
-use Rattle.plan.specs.calls.Plan.{nameOf, nameRecord, namesHeld, placesHeld, unplacedPlan, placedPlan, sitesFrom, sitesIn, Valid, is-unplaced, is-placed}
-use Rattle.plan.specs.theorems.Sheet.{answer-corners}
+use Rattle.plan.specs.calls.Plan.{nameOf, nameRecord, namesHeld, placesHeld, unplacedPlan, placedWith, sitesFrom, sitesIn, Valid, is-unplaced, is-placed}
+use Rattle.plan.specs.calls.Answers.{answerFor}
+use Rattle.plan.specs.theorems.Sheet.{chosen-corners}
 
 -- ---- the sites that it holds
 
@@ -42,9 +42,9 @@ unfolding unplacedPlan sitesIn
 sites-unplaced sites = sites-held sites
 
 -- and once it is.
-pub sites-placed : (sites : List Site) → sitesIn (placedPlan sites) ≡ sites
-unfolding placedPlan sitesIn
-sites-placed sites = sites-held sites
+pub sites-placed : (sites : List Site) (answer : Answer) → sitesIn (placedWith sites answer) ≡ sites
+unfolding placedWith sitesIn
+sites-placed sites answer = sites-held sites
 
 -- A plan's count, names and places are those of these sites, which are by the rules.
 pub record Holding (plan : Plan) (sites : List Site) : Type 0 where
@@ -53,13 +53,18 @@ pub record Holding (plan : Plan) (sites : List Site) : Type 0 where
   pub names : plan .names ≡ namesHeld sites
   pub places : plan .places ≡ placesHeld sites
 
--- A plan that the calls hand back holds its sites.
+-- The plan of sites by the rules does,
+pub holding-unplaced : {sites : List Site} → Listed sites → Holding (unplacedPlan sites) sites
+unfolding unplacedPlan
+holding-unplaced listed = record { listed = listed; count = refl; names = refl; places = refl }
+
+-- and a plan that the calls hand back holds its sites.
 pub valid-holding : {plan : Plan} → Valid plan → Holding plan (sitesIn plan)
-unfolding unplacedPlan placedPlan
+unfolding unplacedPlan placedWith
 valid-holding (is-unplaced sites listed) =
     rw (sites-unplaced sites) (record { listed = listed; count = refl; names = refl; places = refl })
-valid-holding (is-placed sites listed some-sites) =
-    rw (sites-placed sites) (record { listed = listed; count = refl; names = refl; places = refl })
+valid-holding (is-placed sites answer listed some-sites chosen) =
+    rw (sites-placed sites answer) (record { listed = listed; count = refl; names = refl; places = refl })
 
 -- ---- the answer of a placed plan
 
@@ -67,27 +72,29 @@ valid-holding (is-placed sites listed some-sites) =
 abbrev pub answerIn : Plan → Answer
 answerIn plan = record { side = plan .side; corners = take (plan .count) (plan .corners) }
 
--- It is the answer for the places of its sites.
-pub placed-answer : (sites : List Site) → Distinct (placesOf sites) → answerIn (placedPlan sites) ≡ answerOf (placesOf sites)
-unfolding placedPlan
-placed-answer sites distinct =
-    ap (λ (corners : List ℕ). record { side = answerOf (placesOf sites) .side; corners = corners })
-    (take-at (answerOf (placesOf sites) .corners) _ (length sites)
-    (answer-corners (answer-is (placesOf sites) distinct) .one-each ∙ length-map sites placeOf))
+-- It is the one that it was placed with.
+pub placed-answer : (sites : List Site) (answer : Answer) → IsChosen (placesOf sites) answer → answerIn (placedWith sites answer) ≡ answer
+unfolding placedWith
+placed-answer sites answer chosen =
+    ap (λ (corners : List ℕ). record { side = answer .side; corners = corners })
+    (take-at (answer .corners) _ (length sites) (chosen-corners chosen .one-each ∙ length-map sites placeOf))
 
--- It holds the answer for the places of its sites,
-pub valid-answer : {plan : Plan} → Valid plan → plan .placed ≡ true → answerIn plan ≡ answerOf (placesOf (sitesIn plan))
+-- A valid plan that is placed has the first good choice at its side,
+pub valid-chosen : {plan : Plan} → Valid plan → plan .placed ≡ true → IsChosen (placesOf (sitesIn plan)) (answerIn plan)
 unfolding unplacedPlan
-valid-answer (is-unplaced sites listed) is-so = absurd (false≢true is-so)
-valid-answer (is-placed sites listed some-sites) is-so =
-    placed-answer sites (listed .places-distinct) ∙ ap (λ (l : List Site). answerOf (placesOf l)) (sym (sites-placed sites))
+valid-chosen (is-unplaced sites listed) is-so = absurd (false≢true is-so)
+valid-chosen (is-placed sites answer listed some-sites chosen) is-so =
+    rw (sites-placed sites answer, placed-answer sites answer chosen) chosen
 
--- so its side
-pub valid-side : {plan : Plan} → Valid plan → plan .placed ≡ true → plan .side ≡ answerOf (placesOf (sitesIn plan)) .side
-valid-side valid is-so = ap (λ (a : Answer). a .side) (valid-answer valid is-so)
+-- which is the one of the rules;
+pub valid-answer : {plan : Plan} → Valid plan → plan .placed ≡ true → answerIn plan ≡ answerFor plan
+valid-answer valid is-so = is-chosen-at (valid-chosen valid is-so)
 
--- and the corner of each site.
+pub valid-for : {plan : Plan} → Valid plan → plan .placed ≡ true → IsChosen (placesOf (sitesIn plan)) (answerFor plan)
+valid-for {plan} valid is-so = subst (IsChosen (placesOf (sitesIn plan))) (valid-answer valid is-so) (valid-chosen valid is-so)
+
+-- so is the corner of each site.
 pub valid-corner : {plan : Plan} → Valid plan → plan .placed ≡ true → (i : ℕ) → i < plan .count
-    → getD (plan .corners) i 0 ≡ cornerAt (answerOf (placesOf (sitesIn plan)) .corners) i
+    → getD (plan .corners) i 0 ≡ cornerAt (answerFor plan .corners) i
 valid-corner {plan} valid is-so i below =
     sym (getD-take (plan .count) (plan .corners) i 0 below) ∙ ap (λ (a : Answer). cornerAt (a .corners) i) (valid-answer valid is-so)

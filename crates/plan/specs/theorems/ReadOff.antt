@@ -12,18 +12,18 @@ use Rattle.placing.specs.declared.units.Side.{Side}
 use Rattle.placing.specs.declared.units.Side.the-variants.{Number, Free}
 use Rattle.placing.specs.rules.Units.{along, X, Y}
 use Rattle.placing.specs.rules.Choice.{Corners, MeetingPair}
-use Rattle.placing.specs.rules.Answer.{Answer, sideNumber, IsAnswer, is-free, is-number}
-use Rattle.placing.specs.deciding.Answer.{answerOf}
-use Rattle.placing.specs.theorems.Answer.{answer-is}
+use Rattle.placing.specs.rules.Answer.{Answer, sideNumber, IsAnswer, is-free, is-number, IsChosen}
+use Rattle.placing.specs.deciding.Answer.{isSome}
+use Rattle.placing.specs.theorems.Given.{chosen-found, is-chosen-at}
 use Rattle.placing.specs.theorems.FactorTwo.{answer-twice}
 use Rattle.plan.specs.rules.Text.{tab, fieldsOf, Without, numberIn, digitsAfter, decimal, sameBytes}
 use Rattle.plan.specs.rules.List.{Site, placesOf, wantedIn, Listed, ByRules, listLine, listText}
-use Rattle.plan.specs.rules.Sheet.{sideWord, freeWord, sideText, numberedSide, sideIn, sideLine, siteLine, numberOnFields, numberOn, spotsOnLines, spotsOn, carriedLines, carried, joined, butLast}
-use Rattle.plan.specs.deciding.Output.{sheetOf, outputOf}
+use Rattle.plan.specs.rules.Sheet.{sideWord, freeWord, sideText, numberedSide, sideIn, sideLine, siteLine, sheetWith, sideOnFields, sideOn, numberPrinted, numberOn, spotsOnLines, spotsOn, carriedLines, carried, joined, butLast}
+use Rattle.plan.specs.deciding.Output.{sheetOf, sheetAt, outputOf, outputAt}
 use Rattle.plan.specs.Demands.{NoRival}
 use Rattle.plan.specs.theorems.Text.{parted-one, parted-more, same-bytes-same, same-bytes-refl, number-decimal, decimal-without, name-without}
 use Rattle.plan.specs.theorems.Reading.{list-read}
-use Rattle.plan.specs.theorems.Sheet.{lineOfEach, Lined, no-line, one-more, answer-lined, side-without, sheet-lines, output-sheet}
+use Rattle.plan.specs.theorems.Sheet.{lineOfEach, Lined, no-line, one-more, chosen-lined, answer-listed, side-without, sheet-lines, output-sheet, output-sheet-at}
 
 -- ---- fields
 
@@ -72,16 +72,27 @@ lines-carried no-line = refl
 lines-carried (one-more {site} {sites} {corner} {corners} rules c rest) = rw (line-carried corner rules, lines-carried rest)
 
 -- Demand 2: "Leaving out the first line and, of each other line, the last field with the tab before it gives the list back."
-pub sheet-carries : (sites : List Site) → Listed sites → carried (sheetOf sites) ≡ listText sites
-sheet-carries sites listed =
-    ap (λ (lines : List (List ℕ)). carriedLines (drop 1 lines)) (sheet-lines sites listed) ∙ lines-carried (answer-lined sites listed)
+pub sheet-carries : {sites : List Site} (a : Answer) → Lined sites (a .corners) → carried (sheetWith sites a) ≡ listText sites
+sheet-carries a each =
+    ap (λ (lines : List (List ℕ)). carriedLines (drop 1 lines)) (sheet-lines a each) ∙ lines-carried each
 
--- That list, read again, placed and written, gives the same bytes.
+-- That list, read again, placed and written, gives the same bytes,
 pub sheet-again : (sites : List Site) → Listed sites → 1 ≤ length sites → outputOf (carried (sheetOf sites)) ≡ sheetOf sites
+unfolding sheetOf
 sheet-again sites listed nonempty =
-    ap outputOf (sheet-carries sites listed) ∙ output-sheet (listText sites) sites (list-read sites listed) nonempty
+    ap outputOf (sheet-carries _ (chosen-lined sites listed (answer-listed sites listed)))
+    ∙ output-sheet (listText sites) sites (list-read sites listed) nonempty
 
--- ---- the number and the spots
+-- at a given side when it is placed there again.
+pub sheet-again-at : {a : Answer} (sites : List Site) → Listed sites → 1 ≤ length sites → IsChosen (placesOf sites) a
+    → outputAt (a .side) (carried (sheetWith sites a)) ≡ sheetWith sites a
+unfolding sheetAt
+sheet-again-at {a} sites listed nonempty chosen =
+    ap (outputAt (a .side)) (sheet-carries a (chosen-lined sites listed chosen))
+    ∙ output-sheet-at (a .side) (listText sites) sites (list-read sites listed) (chosen .given) nonempty (ap isSome (chosen-found chosen))
+    ∙ ap (sheetWith sites) (sym (is-chosen-at chosen))
+
+-- ---- the side, the number and the spots
 
 -- A side is read as it was written: digits are no word free.
 pub side-in-text : (side : Side) → sideIn (sideText side) ≡ some side
@@ -95,19 +106,17 @@ side-in-text (Number side) = by-test (sameBytes (decimal (side .0)) freeWord) re
     by-test false is = ap numberedSide (number-decimal (side .0))
 side-in-text Free = rw (same-bytes-refl freeWord, sideIn)
 
--- An answer's side is read as a number where it is one: the word free is none.
-side-read : {ps : List Place} {a : Answer} → IsAnswer ps a → numberIn (sideText (a .side)) ≡ sideNumber (a .side)
-unfolding numberIn digitsAfter
-side-read (is-free first) = refl
-side-read (is-number {h} none-free least most first above) = number-decimal h
-
--- The number on a sheet is the side that it prints, where that is a number.
-pub number-read : (sites : List Site) → Listed sites → numberOn (sheetOf sites) ≡ sideNumber (answerOf (placesOf sites) .side)
+-- The side on a sheet is the one that was written there,
+pub side-on-sheet : {sites : List Site} (a : Answer) → Lined sites (a .corners) → sideOn (sheetWith sites a) ≡ some (a .side)
 unfolding sameBytes
-number-read sites listed =
-    ap (λ (lines : List (List ℕ)). numberOnFields (fieldsOf (getD lines 0 []))) (sheet-lines sites listed)
-    ∙ ap numberOnFields (side-fields (answerOf (placesOf sites) .side))
-    ∙ side-read (answer-is (placesOf sites) (listed .places-distinct))
+side-on-sheet a each =
+    ap (λ (lines : List (List ℕ)). sideOnFields (fieldsOf (getD lines 0 []))) (sheet-lines a each)
+    ∙ ap sideOnFields (side-fields (a .side))
+    ∙ side-in-text (a .side)
+
+-- and so its number, where that side is a number.
+pub number-read : {sites : List Site} (a : Answer) → Lined sites (a .corners) → numberOn (sheetWith sites a) ≡ sideNumber (a .side)
+number-read a each = ap numberPrinted (side-on-sheet a each)
 
 -- The spot on a site line is the site's place.
 line-spot : {site : Site} (corner : ℕ) → ByRules site → wantedIn (fieldsOf (siteLine site corner)) .site .place ≡ site .place
@@ -121,9 +130,8 @@ lines-spots no-line = refl
 lines-spots (one-more {site} {sites} {corner} {corners} rules c rest) = rw (line-spot corner rules, lines-spots rest)
 
 -- The spots on a sheet are the places of the sites.
-pub spots-on-sheet : (sites : List Site) → Listed sites → spotsOn (sheetOf sites) ≡ placesOf sites
-spots-on-sheet sites listed =
-    ap (λ (lines : List (List ℕ)). spotsOnLines (drop 1 lines)) (sheet-lines sites listed) ∙ lines-spots (answer-lined sites listed)
+pub spots-on-sheet : {sites : List Site} (a : Answer) → Lined sites (a .corners) → spotsOn (sheetWith sites a) ≡ placesOf sites
+spots-on-sheet a each = ap (λ (lines : List (List ℕ)). spotsOnLines (drop 1 lines)) (sheet-lines a each) ∙ lines-spots each
 
 -- ---- demand 3
 
@@ -135,12 +143,11 @@ rivals (is-number {h} none-free least most first above) number p q is one more =
     let same : number ≡ h = cc in
     answer-twice (is-number none-free least most first above) p q one (subst (λ (n : ℕ). 2 * n * q < p) same more)
 
--- Demand 3: a sheet has no rival without two labels that meet.
-pub no-rival : (sites : List Site) → Listed sites → NoRival (sheetOf sites)
-no-rival sites listed =
+-- Demand 3: a sheet with the answer has no rival without two labels that meet.
+pub no-rival : {a : Answer} {sites : List Site} → IsAnswer (placesOf sites) a → Lined sites (a .corners) → NoRival (sheetWith sites a)
+no-rival {a} is-answer each =
     record {
       rivals-meet = λ number p q is one more.
           subst (λ (spots : List Place). (corners : List ℕ) → Corners (length spots) corners → MeetingPair p q spots corners)
-          (sym (spots-on-sheet sites listed))
-          (rivals (answer-is (placesOf sites) (listed .places-distinct)) number p q (sym (number-read sites listed) ∙ is) one more);
+          (sym (spots-on-sheet a each)) (rivals is-answer number p q (sym (number-read a each) ∙ is) one more);
     }

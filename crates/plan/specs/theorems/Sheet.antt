@@ -1,6 +1,7 @@
 -- Laws of a sheet: what its answer's part is, its lines, and how long it is.
 -- Assumes nothing.
 use mathlib.Core.Path.{_≡_, refl, ap, _∙_}
+use mathlib.Core.Bool.{true}
 use mathlib.Core.List.{List, [], _∷_}
 use Prim.Native.Nat.{ℕ, suc, _+_, _*_, _≤_, _<_}
 use native.Mathlib.Omega.{arith}
@@ -12,31 +13,31 @@ use Rattle.placing.specs.declared.units.Side.the-variants.{Number, Free}
 use Rattle.placing.specs.rules.Units.{freeSide, along, X, Y}
 use Rattle.placing.specs.rules.Corner.{Corner}
 use Rattle.placing.specs.rules.Choice.{Corners, cornerAt, Good}
-use Rattle.placing.specs.rules.Answer.{Answer, IsAnswer, is-free, is-number}
+use Rattle.placing.specs.rules.Answer.{Answer, isSide, IsAnswer, is-free, is-number, IsChosen}
 use Rattle.placing.specs.deciding.Answer.{answerOf}
 use Rattle.placing.specs.theorems.Answer.{answer-is}
+use Rattle.placing.specs.theorems.Given.{number-range, answer-chosen}
 use Rattle.plan.specs.rules.Text.{tab, lineFeed, Without, decimal}
 use Rattle.plan.specs.rules.List.{Site, placesOf, placeOf, noSite, Listed, ByRules, listLine}
 use Rattle.plan.specs.rules.Sheet.{sideWord, sideText, sideLine, siteLine, siteLines, sheetWith, linesOf}
-use Rattle.plan.specs.rules.Calls.{toPlace}
-use Rattle.plan.specs.deciding.Output.{sheetOf, outputFor, outputOf}
+use Rattle.plan.specs.rules.Calls.{toPlace, toPlaceAt}
+use Rattle.plan.specs.deciding.Output.{sheetOf, sheetAt, outputFor, outputOf, existsAt, outputAt}
 use Rattle.plan.specs.rules.Refusal.{Result, accepted}
 use Rattle.plan.specs.deciding.Reading.{readList}
 use Rattle.plan.specs.theorems.Text.{without-append, lines-more, lines-none, decimal-without, decimal-short, decimal-some, decimal-digit, name-short, name-some}
-use Rattle.plan.specs.calls.Lengths.{mostDigits, longestSiteLine, shortestSiteLine, longestSheet, shortestSheet}
+use Rattle.plan.specs.calls.Lengths.{mostDigits, longestSiteLine, shortestSiteLine, longestSheet, shortestSheet, shortestSheetAt}
 use Rattle.plan.specs.theorems.Reading.{line-without}
 
--- ---- what the answer's part of a sheet is
+-- ---- what the side and the corners on a sheet are
 
--- The corners of an answer are corners, one for each site.
-pub answer-corners : {ps : List Place} {a : Answer} → IsAnswer ps a → Corners (length ps) (a .corners)
-answer-corners (is-free first) = first .good .corners
-answer-corners (is-number none-free least most first above) = first .good .corners
+-- What is chosen at a side is one corner for each site.
+pub chosen-corners : {ps : List Place} {a : Answer} → IsChosen ps a → Corners (length ps) (a .corners)
+chosen-corners chosen = chosen .first .good .corners
 
--- A side is written in at most five bytes,
-side-short : {ps : List Place} {a : Answer} → IsAnswer ps a → length (sideText (a .side)) ≤ mostDigits
-side-short (is-free first) = omega arith
-side-short (is-number {h} none-free least most first above) = decimal-short h (omega arith)
+-- A side that can be given is written in at most five bytes,
+side-short : (side : Side) → isSide side ≡ true → length (sideText side) ≤ mostDigits
+side-short (Number side) given = decimal-short (side .0) (omega (arith, number-range (side .0) given .1))
+side-short Free given = omega arith
 
 -- in one at least,
 side-some : (side : Side) → 1 ≤ length (sideText side)
@@ -84,14 +85,18 @@ lined (site ∷ sites) (c ∷ corners) same rules corner =
     one-more (rules 0 (omega arith)) (corner 0 (omega arith))
     (lined sites corners (omega arith) (λ i l. rules (suc i) (omega arith)) (λ i l. corner (suc i) (omega arith)))
 
--- The sites of a plan with the corners of their answer.
-pub answer-lined : (sites : List Site) → Listed sites → Lined sites (answerOf (placesOf sites) .corners)
-answer-lined sites listed =
-    lined sites (answerOf (placesOf sites) .corners) (corners .one-each ∙ length-map sites placeOf) (listed .by-rules)
+-- The sites of a plan with the corners that are chosen for them.
+pub chosen-lined : {a : Answer} (sites : List Site) → Listed sites → IsChosen (placesOf sites) a → Lined sites (a .corners)
+chosen-lined {a} sites listed chosen =
+    lined sites (a .corners) (corners .one-each ∙ length-map sites placeOf) (listed .by-rules)
     (λ i below. corners .corner i (omega (arith, length-map sites placeOf)))
   where
-    corners : Corners (length (placesOf sites)) (answerOf (placesOf sites) .corners)
-    corners = answer-corners (answer-is (placesOf sites) (listed .places-distinct))
+    corners : Corners (length (placesOf sites)) (a .corners)
+    corners = chosen-corners chosen
+
+-- Those of the answer are.
+pub answer-listed : (sites : List Site) → Listed sites → IsChosen (placesOf sites) (answerOf (placesOf sites))
+answer-listed sites listed = answer-chosen (answer-is (placesOf sites) (listed .places-distinct))
 
 -- One line for each site.
 unfoldable pub lineOfEach : List Site → List ℕ → List (List ℕ)
@@ -120,18 +125,12 @@ site-lines (one-more {site} {sites} {corner} {corners} rules c rest) =
     ∙ ap (λ (l : List (List ℕ)). siteLine site corner ∷ l) (site-lines rest)
 
 -- A sheet's lines are its side's, then one for each site.
-pub sheet-lines : (sites : List Site) → Listed sites
-    → linesOf (sheetOf sites) ≡ sideLine (answerOf (placesOf sites) .side) ∷ lineOfEach sites (answerOf (placesOf sites) .corners)
-unfolding sheetOf sheetWith
-sheet-lines sites listed =
-    lines-more (sideLine side) (siteLines sites corners) (side-line-whole side)
-    ∙ ap (λ (l : List (List ℕ)). sideLine side ∷ l) (site-lines (answer-lined sites listed))
-  where
-    side : Side
-    side = answerOf (placesOf sites) .side
-
-    corners : List ℕ
-    corners = answerOf (placesOf sites) .corners
+pub sheet-lines : {sites : List Site} (a : Answer) → Lined sites (a .corners)
+    → linesOf (sheetWith sites a) ≡ sideLine (a .side) ∷ lineOfEach sites (a .corners)
+unfolding sheetWith
+sheet-lines {sites} a each =
+    lines-more (sideLine (a .side)) (siteLines sites (a .corners)) (side-line-whole (a .side))
+    ∙ ap (λ (l : List (List ℕ)). sideLine (a .side) ∷ l) (site-lines each)
 
 -- ---- how long a sheet is
 
@@ -172,24 +171,33 @@ lines-shortest (one-more {site} {sites} {corner} {corners} rules c rest) =
     omega (arith, length-append (siteLine site corner) (lineFeed ∷ siteLines sites corners))
 
 -- The longest sheet.
-pub sheet-longest : (sites : List Site) → Listed sites → length (sheetOf sites) ≤ longestSheet
-unfolding sheetOf sheetWith
-sheet-longest sites listed =
-    let side = side-short (answer-is (placesOf sites) (listed .places-distinct)) in
-    let lines = lines-longest (answer-lined sites listed) in
+pub sheet-longest : {a : Answer} (sites : List Site) → Listed sites → IsChosen (placesOf sites) a → length (sheetWith sites a) ≤ longestSheet
+unfolding sheetWith
+sheet-longest {a} sites listed chosen =
+    let side = side-short (a .side) (chosen .given) in
+    let lines = lines-longest (chosen-lined sites listed chosen) in
     simp length-append (omega (arith, listed .few))
 
--- One site is free, and more sites have more lines.
+-- The shortest.
+pub sheet-shortest-at : {a : Answer} (sites : List Site) → Listed sites → 1 ≤ length sites → IsChosen (placesOf sites) a
+    → shortestSheetAt ≤ length (sheetWith sites a)
+unfolding sheetWith
+sheet-shortest-at {a} sites listed nonempty chosen =
+    let side = side-some (a .side) in
+    let lines = lines-shortest (chosen-lined sites listed chosen) in
+    simp length-append (omega arith)
+
+-- At the side found, one site is free, and more sites have more lines.
 pub sheet-shortest : (sites : List Site) → Listed sites → 1 ≤ length sites → shortestSheet ≤ length (sheetOf sites)
 unfolding sheetOf sheetWith
 sheet-shortest [] listed nonempty = absurd (omega arith)
 sheet-shortest (site ∷ []) listed nonempty =
     let side = alone-free (answer-is (placesOf (site ∷ [])) (listed .places-distinct)) in
-    let lines = lines-shortest (answer-lined (site ∷ []) listed) in
+    let lines = lines-shortest (chosen-lined (site ∷ []) listed (answer-listed (site ∷ []) listed)) in
     simp length-append (omega arith)
 sheet-shortest (site ∷ next ∷ sites) listed nonempty =
     let side = side-some (answerOf (placesOf (site ∷ next ∷ sites)) .side) in
-    let lines = lines-shortest (answer-lined (site ∷ next ∷ sites) listed) in
+    let lines = lines-shortest (chosen-lined (site ∷ next ∷ sites) listed (answer-listed (site ∷ next ∷ sites) listed)) in
     simp length-append (omega arith)
 
 -- ---- the output
@@ -201,4 +209,17 @@ some-to-place sites nonempty = rw (ne-eqb (length sites) 0 (λ zero. omega arith
 -- So the output for a text that is read as some sites is their sheet.
 pub output-sheet : (text : List ℕ) (sites : List Site) → readList text ≡ accepted sites → 1 ≤ length sites → outputOf text ≡ sheetOf sites
 unfolding outputOf
-output-sheet text sites read nonempty = ap (λ (r : Result (List Site)). outputFor (toPlace r)) read ∙ ap outputFor (some-to-place sites nonempty)
+output-sheet text sites read nonempty =
+    ap (λ (r : Result (List Site)). outputFor sheetOf (toPlace r)) read ∙ ap (outputFor sheetOf) (some-to-place sites nonempty)
+
+-- At a given side that has a good choice likewise.
+pub some-to-place-at : (side : Side) (sites : List Site) → isSide side ≡ true → 1 ≤ length sites → existsAt side sites ≡ true
+    → toPlaceAt side (existsAt side) (accepted sites) ≡ accepted sites
+some-to-place-at side sites given nonempty there = rw (given, ne-eqb (length sites) 0 (λ zero. omega arith), there)
+
+pub output-sheet-at : (side : Side) (text : List ℕ) (sites : List Site) → readList text ≡ accepted sites → isSide side ≡ true → 1 ≤ length sites
+    → existsAt side sites ≡ true → outputAt side text ≡ sheetAt side sites
+unfolding outputAt
+output-sheet-at side text sites read given nonempty there =
+    ap (λ (r : Result (List Site)). outputFor (sheetAt side) (toPlaceAt side (existsAt side) r)) read
+    ∙ ap (outputFor (sheetAt side)) (some-to-place-at side sites given nonempty there)

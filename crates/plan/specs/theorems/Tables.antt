@@ -3,21 +3,21 @@
 -- Assumes nothing.
 use mathlib.Core.Path.{_≡_, refl, sym, ap, _∙_}
 use mathlib.Core.Bool.{Bool, true, false, true≢false}
-use mathlib.Core.List.{List, [], _∷_}
+use mathlib.Core.List.{List, [], _∷_, _++_}
 use mathlib.Core.Option.{Option, some, none}
 use Prim.Native.Nat.{ℕ, zero, suc, _≤_, _<_}
 use native.Mathlib.Decide.{decLt}
 use native.Mathlib.Omega.{arith}
 use lib.ListN.{length, getD, drop}
 use Rattle.plan.specs.declared.refusal.Refusal.{Refusal}
-use Rattle.plan.specs.declared.refusal.Refusal.the-variants.{BadLine, BadName, BadCoordinate, NameTaken, PlaceTaken, NoSuchSite, Full, NoSites, NotPlaced, ShortBuffer, ShortTable}
+use Rattle.plan.specs.declared.refusal.Refusal.the-variants.{BadLine, BadName, BadNumber, NameTaken, PlaceTaken, NoSuchSite, Full, NoSites, NotPlaced, ShortBuffer, ShortTable, NoGoodChoice}
 use Rattle.plan.specs.rules.Refusal.{numberOf, Test, _gives_, firstRefusal, refusalNumber, numberBy, Result, accepted, refused, unless}
 
--- Numbers of refusals go from 1 to 11.
-number-range : (why : Refusal) → (1 ≤ numberOf why) × (numberOf why ≤ 11)
+-- Numbers of refusals go from 1 to 12.
+number-range : (why : Refusal) → (1 ≤ numberOf why) × (numberOf why ≤ 12)
 number-range BadLine = omega arith
 number-range BadName = omega arith
-number-range BadCoordinate = omega arith
+number-range BadNumber = omega arith
 number-range NameTaken = omega arith
 number-range PlaceTaken = omega arith
 number-range NoSuchSite = omega arith
@@ -26,11 +26,12 @@ number-range NoSites = omega arith
 number-range NotPlaced = omega arith
 number-range ShortBuffer = omega arith
 number-range ShortTable = omega arith
+number-range NoGoodChoice = omega arith
 
 pub number-some : (why : Refusal) → 1 ≤ numberOf why
 number-some why = number-range why .0
 
-pub number-small : (why : Refusal) → numberOf why ≤ 11
+pub number-small : (why : Refusal) → numberOf why ≤ 12
 number-small why = number-range why .1
 
 -- Row number i of a table, from 0.
@@ -111,6 +112,24 @@ pub rest-none : (k : ℕ) (tests : List Test) → firstRefusal tests ≡ none �
 rest-none zero tests is = is
 rest-none (suc k) [] is = is
 rest-none (suc k) (test ∷ tests) is = rest-none k tests (first-none test tests is .1)
+
+-- More rows behind a table that gives a refusal change nothing; behind one that gives none they decide.
+pub first-early : (tests more : List Test) {why : Refusal} → firstRefusal tests ≡ some why → firstRefusal (tests ++ more) ≡ some why
+first-early [] more is = let z : _≡_ {A = ℕ} 0 1 = cc in absurd (omega arith)
+first-early (test ∷ tests) more {why} is = by-test (test .holds) (first-early tests more) is
+  where
+    by-test : (b : Bool) → (firstRefusal tests ≡ some why → firstRefusal (tests ++ more) ≡ some why)
+        → _≡_ {A = Option Refusal} (elim b [ true ↦ some (test .refusal) | false ↦ firstRefusal tests ]) (some why)
+        → _≡_ {A = Option Refusal} (elim b [ true ↦ some (test .refusal) | false ↦ firstRefusal (tests ++ more) ]) (some why)
+    by-test true later is = is
+    by-test false later is = later is
+
+pub first-late : (tests more : List Test) → firstRefusal tests ≡ none → firstRefusal (tests ++ more) ≡ firstRefusal more
+first-late [] more is = refl
+first-late (test ∷ tests) more is =
+    let both = first-none test tests is in
+    ap (λ (b : Bool). elim b [ true ↦ some (test .refusal) | false ↦ firstRefusal (tests ++ more) ]) (both .0)
+    ∙ first-late tests more (both .1)
 
 -- What is refused is not accepted.
 pub refused-not-accepted : {A : Type 0} {why : Refusal} {value : A} → _≡_ {A = Result A} (refused why) (accepted value) → ⊥

@@ -1,0 +1,114 @@
+-- Document 02, L1: which sides a plan can be placed at, and what finding and choosing lead to.
+-- Assumes nothing.
+use mathlib.Core.Path.{_≡_, refl, sym, ap, _∙_, subst}
+use mathlib.Core.Bool.{Bool, true, false, not, true≢false, false≢true}
+use mathlib.Core.List.{List, [], _∷_}
+use mathlib.Core.Option.{Option, some, none}
+use Prim.Native.Nat.{ℕ, _*_, _≤_, _<_}
+use native.Mathlib.Omega.{arith}
+use borrow.Author.Tests.{ne-eqb, le-ltb}
+use lib.Dec.{eqb, ltb}
+use lib.ListN.{length}
+use Rattle.placing.specs.declared.units.Side.{Side}
+use Rattle.placing.specs.rules.Units.{Distinct}
+use Rattle.placing.specs.rules.Choice.{SomeGood}
+use Rattle.placing.specs.rules.Answer.{Answer, isSide, judgedAt, IsChosen}
+use Rattle.placing.specs.deciding.Answer.{firstGood, answerOf, isSome, chosenAt}
+use Rattle.placing.specs.theorems.Answer.{answer-is}
+use Rattle.placing.specs.theorems.Given.{judged-range, some-found, found-some, is-chosen-at, answer-chosen, found-chosen, up-to-found, above-found}
+use Rattle.plan.specs.declared.refusal.Outcome.the-variants.{Done, Refused}
+use Rattle.plan.specs.declared.refusal.Refusal.{Refusal}
+use Rattle.plan.specs.declared.refusal.Refusal.the-variants.{BadNumber, NoSites, ShortTable, NoGoodChoice}
+use Rattle.plan.specs.declared.plan.Plan.{Plan}
+use Rattle.plan.specs.declared.plan.Planned.{Planned}
+use Rattle.plan.specs.rules.Refusal.{numberOf, _gives_, firstRefusal, refusalNumber, accepted, unless}
+use Rattle.plan.specs.rules.List.{Site, placesOf, Listed}
+use Rattle.plan.specs.rules.Calls.{findingTests, choosingTests}
+use Rattle.plan.specs.deciding.Output.{existsAt}
+use Rattle.plan.specs.calls.Plan.{unplacedPlan, placedWith, placedPlan, sitesIn, Valid, is-unplaced, is-placed}
+use Rattle.plan.specs.calls.Answers.{outcomeNumber, handed, sideFound, chosenFor, chosenIn}
+use Rattle.plan.specs.theorems.Plan.{Holding, valid-holding, sites-placed}
+
+-- 12 is given only where no good choice exists at the side.
+pub twelve-none : (plan : Plan) (side : Side) (table : List ℕ) → outcomeNumber (chosenIn plan side table .outcome) ≡ 12
+    → SomeGood (judgedAt side) (placesOf (sitesIn plan)) → ⊥
+twelve-none plan side table twelve some-good =
+    by-tests (not (isSide side)) (eqb (plan .count) 0) (ltb (length table) (plan .count * plan .count)) (existsAt side (sitesIn plan))
+    (some-found some-good) twelve
+  where
+    by-tests : (a b c e : Bool) → e ≡ true
+        → outcomeNumber
+        (handed (placedWith (sitesIn plan)) plan
+        (unless (firstRefusal (a gives BadNumber ∷ b gives NoSites ∷ c gives ShortTable ∷ not e gives NoGoodChoice ∷ []))
+        (chosenAt side (placesOf (sitesIn plan)))) .outcome) ≡ 12 → ⊥
+    by-tests true b c e there number = omega arith
+    by-tests false true c e there number = omega arith
+    by-tests false false true e there number = omega arith
+    by-tests false false false true there number = omega arith
+    by-tests false false false false there number = false≢true there
+
+-- Of a plan with some sites, and a table that is long enough.
+module _ (plan : Plan) (table : List ℕ) (some-sites : plan .count ≡ 0 → ⊥) (room : plan .count * plan .count ≤ length table) where
+  -- The side is found.
+  pub found-done : sideFound plan table ≡ accepted (answerOf (placesOf (sitesIn plan)) .side)
+  found-done = rw (ne-eqb (plan .count) 0 some-sites, le-ltb (length table) (plan .count * plan .count) room)
+
+  module _ (side : Side) (given : isSide side ≡ true) where
+    -- Of a side that can be given, only 12 is left to be tested.
+    chosen-tested : {exists : Bool} → existsAt side (sitesIn plan) ≡ exists
+        → chosenFor plan side table ≡ unless (firstRefusal (not exists gives NoGoodChoice ∷ [])) (chosenAt side (placesOf (sitesIn plan)))
+    chosen-tested is =
+        rw (given, ne-eqb (plan .count) 0 some-sites, le-ltb (length table) (plan .count * plan .count) room, is)
+
+    -- Where a good choice exists the plan is placed there;
+    pub chosen-done : SomeGood (judgedAt side) (placesOf (sitesIn plan))
+        → chosenIn plan side table ≡ record { outcome = Done; plan = placedWith (sitesIn plan) (chosenAt side (placesOf (sitesIn plan))) }
+    chosen-done some-good = ap (handed (placedWith (sitesIn plan)) plan) (chosen-tested (some-found some-good))
+
+    -- where none does, 12 is given.
+    pub chosen-none : (SomeGood (judgedAt side) (placesOf (sitesIn plan)) → ⊥)
+        → chosenIn plan side table ≡ record { outcome = Refused NoGoodChoice; plan = plan }
+    chosen-none none-good =
+        ap (handed (placedWith (sitesIn plan)) plan) (chosen-tested (by-search (existsAt side (sitesIn plan)) refl))
+      where
+        by-search : (exists : Bool) → existsAt side (sitesIn plan) ≡ exists → existsAt side (sitesIn plan) ≡ false
+        by-search true is = absurd (none-good (found-some (judgedAt side) (placesOf (sitesIn plan)) is))
+        by-search false is = is
+
+    module _ (places : Distinct (placesOf (sitesIn plan))) where
+      -- Every side up to the one found is accepted,
+      pub up-to-accepted : judgedAt side ≤ judgedAt (answerOf (placesOf (sitesIn plan)) .side)
+          → chosenIn plan side table ≡ record { outcome = Done; plan = placedWith (sitesIn plan) (chosenAt side (placesOf (sitesIn plan))) }
+      up-to-accepted smaller = chosen-done (up-to-found places smaller)
+
+      -- and none above it.
+      pub above-refused : judgedAt (answerOf (placesOf (sitesIn plan)) .side) < judgedAt side
+          → chosenIn plan side table ≡ record { outcome = Refused NoGoodChoice; plan = plan }
+      above-refused above =
+          chosen-none (λ some-good. above-found places above (judged-range side given .1) (some-good .choice) (some-good .good))
+
+  -- Finding, and choosing at what was found, gives the answer.
+  pub found-then-chosen : Distinct (placesOf (sitesIn plan))
+      → chosenIn plan (answerOf (placesOf (sitesIn plan)) .side) table ≡ record { outcome = Done; plan = placedPlan (sitesIn plan) }
+  found-then-chosen places =
+      let chosen = answer-chosen (answer-is (placesOf (sitesIn plan)) places) in
+      chosen-done (answerOf (placesOf (sitesIn plan)) .side) (chosen .given) (record { choice = _; good = chosen .first .good })
+      ∙ ap {B = Planned} (λ (a : Answer). record { outcome = Done; plan = placedWith (sitesIn plan) a }) (found-chosen places)
+
+-- The plan of some sites, placed by choosing at the side of what is chosen for them.
+pub placed-by : {plan : Plan} {sites : List Site} (answer : Answer) (table : List ℕ) → Holding plan sites → sitesIn plan ≡ sites → 1 ≤ length sites
+    → plan .count * plan .count ≤ length table → IsChosen (placesOf sites) answer
+    → chosenIn plan (answer .side) table ≡ record { outcome = Done; plan = placedWith sites answer }
+placed-by {plan} {sites} answer table holding same nonempty room chosen =
+    chosen-done plan table (λ zero. omega (arith, holding .count)) room (answer .side) (chosen .given)
+    (rw same (record { choice = answer .corners; good = chosen .first .good }))
+    ∙ ap {B = Planned} (λ (l : List Site). record { outcome = Done; plan = placedWith l (chosenAt (answer .side) (placesOf l)) }) same
+    ∙ ap {B = Planned} (λ (a : Answer). record { outcome = Done; plan = placedWith sites a }) (sym (is-chosen-at chosen))
+
+-- "Placing a placed plan gives the same answer again": choosing again at the same side changes nothing.
+pub chosen-again : {plan : Plan} (table : List ℕ) → Valid plan → plan .placed ≡ true → plan .count * plan .count ≤ length table
+    → chosenIn plan (plan .side) table ≡ record { outcome = Done; plan = plan }
+unfolding unplacedPlan placedWith
+chosen-again table (is-unplaced sites listed) is-so room = absurd (false≢true is-so)
+chosen-again table (is-placed sites answer listed nonempty chosen) is-so room =
+    placed-by answer table (record { listed = listed; count = refl; names = refl; places = refl }) (sites-placed sites answer) nonempty room chosen

@@ -51,7 +51,7 @@ use Rattle.plan.specs.calls.Answers.{
 }
 use Rattle.plan.specs.Demands.{WriteTold, PlacedSheet, SheetWritten}
 use Rattle.plan.specs.theorems.Reading.{reads-are, read-listed}
-use Rattle.plan.specs.theorems.Sheet.{answer-listed, some-to-place}
+use Rattle.plan.specs.theorems.Sheet.{answer-listed, sheet-longest, some-to-place}
 use Rattle.plan.specs.theorems.Plan.{sites-unplaced, sites-placed, Holding, holding-unplaced, valid-holding, valid-for}
 use Rattle.plan.specs.theorems.Calls.{write-told}
 use Rattle.plan.specs.theorems.Choosing.{found-done, placed-by}
@@ -67,6 +67,11 @@ placed-some : {plan : Plan} → Valid plan → plan .placed ≡ true → 1 ≤ l
 unfolding unplacedPlan
 placed-some (is-unplaced sites listed) is = absurd (false≢true is)
 placed-some (is-placed sites answer listed nonempty chosen) is = rw (sites-placed sites answer) nonempty
+
+-- Its sheet is no longer than the longest.
+pub placed-longest : {plan : Plan} → Valid plan → plan .placed ≡ true → length (sheetFor plan) ≤ longestSheet
+unfolding sheetAt
+placed-longest {plan} valid is = sheet-longest (sitesIn plan) (valid-holding valid .listed) (valid-for valid is)
 
 -- What is promised of writing a plan into a buffer.
 abbrev pub WritePromised : Plan → List ℕ → Written → List ℕ → Type 0

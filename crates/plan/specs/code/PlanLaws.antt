@@ -3,10 +3,12 @@
 use mathlib.Core.Path.{_≡_, sym, ap, ap₂, _∙_, subst}
 use mathlib.Core.Bool.{true, false}
 use mathlib.Core.List.{List, [], _∷_, _++_, map, map-append, append-assoc}
+use mathlib.Core.Option.{none}
 use Prim.Native.Nat.{ℕ, suc, _+_, _-_, _*_, _≤_, _<_}
 use native.Mathlib.Omega.{arith}
 use lib.ListN.{length, getD, take, set, replicate, length-map, length-append, List·getD-append, List·getD-map}
 use lib.Seq.{take-at, set-at}
+use borrow.Author.Tests.{eqb-false, ltb-false}
 use Rattle.placing.specs.declared.choice.Choice.{Choice}
 use Rattle.placing.specs.declared.units.Place.{Place}
 use Rattle.placing.specs.declared.units.Side.{Side}
@@ -17,11 +19,14 @@ use Rattle.placing.specs.deciding.Answer.{firstGood, isSome, chosenAt}
 use Rattle.placing.specs.calls.Placing.{choiceAs, MayPlace}
 use Rattle.plan.specs.declared.name.Name.{Name}
 use Rattle.plan.specs.declared.plan.Plan.{Plan}
+use Rattle.plan.specs.rules.Refusal.{firstRefusal}
 use Rattle.plan.specs.rules.Text.{mostNameBytes}
+use Rattle.plan.specs.rules.Calls.{findingTests}
 use Rattle.plan.specs.rules.List.{Site, noSite, placeOf, placesOf, nameTaken, placeTaken}
 use Rattle.plan.specs.calls.Plan.{nameOf, nameHeld, nameRecord, namesHeld, placesHeld, unplacedPlan, placedWith, Valid, is-unplaced}
 use Rattle.plan.specs.deciding.Output.{existsAt}
 use Rattle.plan.specs.theorems.Text.{name-short}
+use Rattle.plan.specs.theorems.Tables.{rows-none}
 use Rattle.plan.specs.theorems.Sites.{listed-none, listed-in-range}
 use Rattle.plan.specs.theorems.Plan.{Holding}
 use Rattle.plan.specs.code.Taken.{siteOf, ShortNames, namesTaken, placesTaken, names-of-sites, places-of-sites}
@@ -132,14 +137,16 @@ pub holding-exists : {plan : Plan} {sites : List Site} → Holding plan sites �
 holding-exists holding side choice e =
     ap (λ (c : Choice). c .exists) e ∙ ap (λ (places : List Place). isSome (firstGood (judgedAt side) places)) (holding-places holding)
 
--- Its places may be placed, where there are some and the table has room.
-pub holding-may : {plan : Plan} {sites : List Site} → Holding plan sites → (table : List ℕ) → (plan .count ≡ 0 → ⊥)
-    → plan .count * plan .count ≤ length table → MayPlace (plan .count) (plan .places) table
-holding-may {plan} {sites} holding table some-sites room =
+-- Its places may be placed, where no test of finding holds: there are some sites, and the table has room.
+pub holding-ready : {plan : Plan} {sites : List Site} → Holding plan sites → (table : List ℕ)
+    → firstRefusal (findingTests (plan .count) (length table)) ≡ none → MayPlace (plan .count) (plan .places) table
+holding-ready {plan} {sites} holding table ready =
+    let none-holds = rows-none (findingTests (plan .count) (length table)) ready .none-holds in
+    let some-sites = eqb-false (plan .count) 0 (none-holds 0 (omega arith)) in
     record {
       some-sites = omega arith;
       few = omega (arith, holding .count, holding .listed .few);
       distinct = rw (holding-places holding) (holding .listed .places-distinct);
       in-range = rw (holding-places holding) (listed-in-range (holding .listed));
-      room = room;
+      room = ltb-false (length table) (plan .count * plan .count) (none-holds 1 (omega arith));
     }

@@ -15,7 +15,7 @@ returns-2 : tie.Need-returns-2
 returns-2 c =
     let start = c .before .before in
     let plan = start .args .plan in
-    let is = side-given (start .pre) (not-false (plan .placed) (c .if1 .left)) in
+    let is = side-given plan (not-false (plan .placed) (c .if1 .left)) in
     (is, side-told plan is)
 
 pub side-spec : {M : Type 1} → statement M

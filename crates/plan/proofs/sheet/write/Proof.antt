@@ -8,13 +8,10 @@ use Prim.Native.Nat.{_≤_}
 use native.Mathlib.Omega.{arith}
 use lib.ListN.{length}
 use denote.Ref.{now}
-use Rattle.plan.specs.deciding.Output.{sheetOf}
-use Rattle.plan.specs.calls.Plan.{sitesIn}
-use Rattle.plan.specs.theorems.Sheet.{sheet-longest}
 use Rattle.plan.specs.calls.Lengths.{longestSheet}
-use Rattle.plan.specs.theorems.Plan.{valid-holding}
+use Rattle.plan.specs.calls.Answers.{sheetFor}
 use Rattle.plan.specs.code.PutLaws.{put-length}
-use Rattle.plan.specs.code.Filling.{write-unplaced, write-short, write-copied}
+use Rattle.plan.specs.code.Filling.{placed-longest, write-unplaced, write-short, write-copied}
 use Rattle.plan.proofs.sheet.write.Statement.{statement}
 use Rattle.plan.proofs.sheet.write.Tie as tie
 
@@ -23,8 +20,8 @@ is-placed : (c : tie.Else1) → c .before .before .before .args .plan .placed �
 is-placed c = not-false (c .before .before .before .args .plan .placed) (c .if1 .left)
 
 -- The sheet is no longer than the array.
-sheet-fits : (c : tie.Start) → length (sheetOf (sitesIn (c .args .plan))) ≤ longestSheet
-sheet-fits c = sheet-longest (sitesIn (c .args .plan)) (valid-holding (c .pre) .listed)
+sheet-fits : (c : tie.Else1) → length (sheetFor (c .before .before .before .args .plan)) ≤ longestSheet
+sheet-fits c = placed-longest (c .before .before .before .pre) (is-placed c)
 
 returns : tie.Need-returns
 returns c =
@@ -49,7 +46,7 @@ slice-aggregate-put-bytes c = search needs
 put-bytes-requires : tie.Need-put-bytes-requires
 put-bytes-requires c κs =
     let composed = c .before .before .before .before in
-    let fits = sheet-fits (composed .before .before .before .before .before) in (
+    let fits = sheet-fits (composed .before .before) in (
       omega (arith, composed .compose .ensures .next-is, put-length (composed .compose .ensures), fits),
       omega (arith, c .before .before .if2 .left),
     )
@@ -62,7 +59,7 @@ returns-3 c =
     let composed = c .before .before .before .before .before .before .before in
     let start = composed .before .before .before .before .before in
     let room = c .before .before .before .before .before .if2 .left in
-    write-copied (start .pre) (is-placed (composed .before .before)) (composed .compose .ensures) (sheet-fits start) room
+    write-copied (start .pre) (is-placed (composed .before .before)) (composed .compose .ensures) (sheet-fits (composed .before .before)) room
     (c .before .before .put-bytes .ensures)
 
 pub write-spec : {M : Type 1} → statement M

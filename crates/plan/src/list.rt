@@ -1,11 +1,14 @@
 // Reading a list: one site a line, name, x, y, parted by one tab each.
 use crate::limits::TextLimits;
+use crate::name::NameRead;
 use crate::name::name_from;
+use crate::number::Coordinate;
+use crate::number::PlaceRead;
 use crate::number::coordinate_from;
 use crate::number::place_at;
 use crate::plan::Plan;
 use crate::plan::Planned;
-use crate::plan::enter_read;
+use crate::plan::enter_outcome;
 use crate::plan::refuse;
 use crate::refusal::Outcome;
 use crate::refusal::Refusal;
@@ -13,11 +16,13 @@ ghost use mathlib.Core.Path.{_≡_};
 ghost use mathlib.Core.List.{[], _∷_};
 ghost use Prim.Native.Nat.{_≤_};
 ghost use lib.ListN.{length};
+ghost use Rattle.plan.specs.rules.Refusal.{firstRefusal};
 ghost use Rattle.plan.specs.rules.Text.{fieldsOf};
-ghost use Rattle.plan.specs.calls.Plan.{unplacedPlan, sitesIn, Valid};
-ghost use Rattle.plan.specs.calls.Answers.{handed, readFrom};
+ghost use Rattle.plan.specs.calls.Plan.{sitesIn, Valid};
+ghost use Rattle.plan.specs.calls.Answers.{readFrom};
 ghost use Rattle.plan.specs.Demands.{ReadTold, StopTold};
-ghost use Rattle.plan.specs.code.Line.{LineEnds, LineReads, FieldEnd, enteredFields};
+ghost use Rattle.plan.specs.code.Entering.{NameFits, outcomeOf};
+ghost use Rattle.plan.specs.code.Line.{LineEnds, FieldEnd, LineReads, NoFields, readTests};
 ghost use Rattle.plan.specs.code.Reading.{LinesReads};
 
 // Where a line ends: the place of its line feed, if it has one in time.
@@ -26,11 +31,11 @@ pub(crate) enum LineEnd {
     Missing,
 }
 
-// What reading a line hands back: the answer, the plan afterwards, and where the next line starts, or this one where it has no end.
+// What is read of a line: whether it has three fields, and the name and the place that they write.
 pub(crate) struct LineRead {
-    pub outcome: Outcome,
-    pub plan: Plan,
-    pub next: usize,
+    pub three: bool,
+    pub name: NameRead,
+    pub place: PlaceRead,
 }
 
 // What reading line after line hands back: the answer of the last one, the plan of those accepted, and where a refused line starts, else
@@ -85,62 +90,71 @@ fn field_end(line: &[u8], at: usize) -> usize
     k
 }
 
-// Enters three fields: tests 2, 3, 7, 4, 5.
-fn enter_fields(plan: Plan, name: &[u8], x: &[u8], y: &[u8]) -> Planned
-    requires { ⌜ Valid plan ⌝ }
-    ensures answer { λ r. ⌜ r ≡ handed unplacedPlan plan (enteredFields (sitesIn plan)
-        (now (name .entry) ∷ now (x .entry) ∷ now (y .entry) ∷ [])) ⌝ }
-    ensures valid { λ r. ⌜ Valid (r .plan) ⌝ }
+// Reads three fields.
+fn read_fields(name: &[u8], x: &[u8], y: &[u8]) -> LineRead
+    ensures { λ r. ⌜ LineReads (now (name .entry) ∷ now (x .entry) ∷ now (y .entry) ∷ []) r ⌝ }
 {
     let site_name = name_from(name);
     let site_place = place_at(coordinate_from(x), coordinate_from(y));
-    enter_read(plan, site_name, site_place)
+    LineRead {
+        three: true,
+        name: site_name,
+        place: site_place,
+    }
 }
 
-// Enters a line, without its line feed: test 1 for its fields, then theirs.
-fn enter_line(plan: Plan, line: &[u8]) -> Planned
-    requires { ⌜ Valid plan ⌝ }
-    ensures answer { λ r. ⌜ r ≡ handed unplacedPlan plan (enteredFields (sitesIn plan) (fieldsOf (now (line .entry)))) ⌝ }
-    ensures valid { λ r. ⌜ Valid (r .plan) ⌝ }
+// What is read of a line of other than three fields.
+fn no_fields() -> LineRead
+    ensures { λ r. ⌜ NoFields r ⌝ }
+{
+    LineRead {
+        three: false,
+        name: NameRead::none(),
+        place: place_at(Coordinate::Nowhere, Coordinate::Nowhere),
+    }
+}
+
+// Reads a line, without its line feed.
+fn read_line(line: &[u8]) -> LineRead
+    ensures { λ r. ⌜ LineReads (fieldsOf (now (line .entry))) r ⌝ }
 {
     let n = line.len();
     let first = field_end(line, 0);
     if first == n {
-        return refuse(plan, Refusal::BadLine);
+        return no_fields();
     }
     let from_x = first + 1;
     let second = field_end(line, from_x);
     if second == n {
-        return refuse(plan, Refusal::BadLine);
+        return no_fields();
     }
     let from_y = second + 1;
     let third = field_end(line, from_y);
     if third != n {
-        return refuse(plan, Refusal::BadLine);
+        return no_fields();
     }
-    enter_fields(plan, &line[..first], &line[from_x..second], &line[from_y..])
+    read_fields(&line[..first], &line[from_x..second], &line[from_y..])
 }
 
-// Reads the line that starts at `at`: test 1 for its end, then those of entering it.
-fn read_line(plan: Plan, text: &[u8], at: usize) -> LineRead
-    requires { ⌜ Valid plan × (at ≤ length (now text)) ⌝ }
-    ensures { λ r. ⌜ LineReads plan (now (text .entry)) at r ⌝ }
+// What the tests of entering a line come to: 1 for its fields, then theirs.
+fn line_outcome(plan: Plan, line: LineRead) -> Outcome
+    requires { ⌜ Valid plan × NameFits (line .name) ⌝ }
+    ensures { λ r. ⌜ r ≡ outcomeOf (firstRefusal (readTests (sitesIn plan) line)) ⌝ }
 {
-    let LineEnd::At(end) = line_end(text, at) else {
-        return LineRead {
-            outcome: Outcome::Refused(Refusal::BadLine),
-            plan,
-            next: at,
-        };
-    };
-    let entered = enter_line(plan, &text[at..end]);
-    let outcome = entered.outcome;
-    let after = entered.plan;
-    LineRead {
-        outcome,
-        plan: after,
-        next: end + 1,
+    if !line.three {
+        return Outcome::Refused(Refusal::BadLine);
     }
+    let name = line.name;
+    let place = line.place;
+    enter_outcome(plan, name, place)
+}
+
+// Reading stops at the line that starts at `at`.
+fn stopped(plan: Plan, at: usize, why: Refusal) -> LinesRead
+    ensures { λ r. ⌜ r ≡ record { outcome = Outcome.Refused why; plan = plan; at = at } ⌝ }
+{
+    let outcome = Outcome::Refused(why);
+    LinesRead { outcome, plan, at }
 }
 
 // Reads line after line into a fresh plan, up to the first refused line or the text's end.
@@ -150,18 +164,21 @@ fn read_lines(text: &[u8]) -> LinesRead
     let mut plan = Plan::start();
     let mut at = 0;
     while at < text.len() {
-        let line = read_line(plan, text, at);
-        let outcome = line.outcome;
+        let LineEnd::At(end) = line_end(text, at) else {
+            return stopped(plan, at, Refusal::BadLine);
+        };
+        let line = read_line(&text[at..end]);
+        let outcome = line_outcome(plan, line);
         if let Outcome::Refused(why) = outcome {
-            return LinesRead {
-                outcome: Outcome::Refused(why),
-                plan,
-                at,
-            };
+            return stopped(plan, at, why);
         }
-        let more = line.plan;
-        plan = more;
-        at = line.next;
+        let n = plan.count;
+        let name = line.name.name;
+        let place = line.place.place;
+        plan.names[n] = name;
+        plan.places[n] = place;
+        plan.count = n + 1;
+        at = end + 1;
     }
     LinesRead {
         outcome: Outcome::Done,

@@ -1,10 +1,9 @@
 // A site's name: 1 to 8 bytes, each A to Z, 0 to 9 or hyphen.
 use crate::put::put_bytes;
 ghost use mathlib.Core.Path.{_≡_};
-ghost use Prim.Native.Nat.{_≤_};
-ghost use Rattle.plan.specs.rules.Text.{isNameByte, isName, sameBytes, mostNameBytes};
+ghost use Rattle.plan.specs.rules.Text.{isNameByte, isName, sameBytes};
 ghost use Rattle.plan.specs.calls.Plan.{nameHeld};
-ghost use Rattle.plan.specs.code.NameRead.{nameRead, noName, noRead};
+ghost use Rattle.plan.specs.code.NameRead.{Padded, nameRead, noName, noRead};
 
 // The bytes of a name from the front, zeros past them.
 pub struct Name {
@@ -35,7 +34,7 @@ impl Name {
 
 impl NameRead {
     // No name.
-    fn none() -> NameRead
+    pub(crate) fn none() -> NameRead
         ensures { λ r. ⌜ r ≡ noRead ⌝ }
     {
         NameRead {
@@ -112,14 +111,18 @@ pub(crate) fn same_bytes(a: &[u8], b: &[u8]) -> bool
     true
 }
 
-// Whether two names are the same.
+// Whether two names are the same. All eight places are compared, zeros too: a loop of a fixed length is quicker.
 pub(crate) fn same_name(a: Name, b: Name) -> bool
-    requires { ⌜ (a .len ≤ mostNameBytes) × (b .len ≤ mostNameBytes) ⌝ }
+    requires { ⌜ Padded a × Padded b ⌝ }
     ensures { λ r. ⌜ r ≡ sameBytes (nameHeld a) (nameHeld b) ⌝ }
 {
-    let n = a.len;
-    let m = b.len;
-    let a_bytes = a.bytes;
-    let b_bytes = b.bytes;
-    same_bytes(&a_bytes[..n], &b_bytes[..m])
+    if a.len != b.len {
+        return false;
+    }
+    for i in 0..Name::LONGEST {
+        if a.bytes[i] != b.bytes[i] {
+            return false;
+        }
+    }
+    true
 }

@@ -14,12 +14,12 @@ ghost use Prim.Native.Nat.{_≤_};
 ghost use Rattle.placing.specs.rules.Units.{mostSites};
 ghost use Rattle.placing.specs.deciding.Tests.{samePlace};
 ghost use Rattle.plan.specs.rules.Refusal.{firstRefusal};
-ghost use Rattle.plan.specs.rules.Text.{mostNameBytes};
-ghost use Rattle.plan.specs.rules.List.{entered};
+ghost use Rattle.plan.specs.rules.List.{enterTests, entered};
 ghost use Rattle.plan.specs.calls.Plan.{unplacedPlan, nameHeld, sitesIn, Valid};
 ghost use Rattle.plan.specs.calls.Answers.{started, handed};
+ghost use Rattle.plan.specs.code.NameRead.{Padded};
 ghost use Rattle.plan.specs.code.PlanLaws.{unplacedOf, placedOf};
-ghost use Rattle.plan.specs.code.Taken.{ShortNames, namesTaken, placesTaken};
+ghost use Rattle.plan.specs.code.Taken.{PaddedNames, namesTaken, placesTaken};
 ghost use Rattle.plan.specs.code.Entering.{NameFits, PlaceFits, wantedRead, outcomeOf, rows};
 
 // Slots past the count hold nothing: a name of no bytes, the place 0, 0 and corner 0. While a plan is not placed, its side is
@@ -112,7 +112,7 @@ pub(crate) fn refuse(plan: Plan, why: Refusal) -> Planned
 
 // Whether one of the first `n` names is this one.
 fn name_taken(names: [Name; Limits::SITES], n: usize, name: Name) -> bool
-    requires { ⌜ (n ≤ mostSites) × ShortNames n names × (name .len ≤ mostNameBytes) ⌝ }
+    requires { ⌜ (n ≤ mostSites) × PaddedNames n names × Padded name ⌝ }
     ensures { λ r. ⌜ r ≡ namesTaken n names (nameHeld name) ⌝ }
 {
     for i in 0..n {
@@ -170,23 +170,34 @@ fn first_failed(unnamed: bool, outside: bool, full: bool, named: bool, placed: b
     Outcome::Done
 }
 
+// What the tests of entering a name and a place, as they were read, come to.
+pub(crate) fn enter_outcome(plan: Plan, name: NameRead, place: PlaceRead) -> Outcome
+    requires { ⌜ Valid plan × NameFits name ⌝ }
+    ensures { λ r. ⌜ r ≡ outcomeOf (firstRefusal (enterTests (sitesIn plan) (wantedRead name place))) ⌝ }
+{
+    let n = plan.count;
+    let names = plan.names;
+    let places = plan.places;
+    let named = name_taken(names, n, name.name);
+    let placed = place_taken(places, n, place.place);
+    first_failed(!name.ok, !place.ok, n >= Limits::SITES, named, placed)
+}
+
 // The plan with one site more, whose name and place were read. The plan is not placed afterwards.
 pub(crate) fn enter_read(plan: Plan, name: NameRead, place: PlaceRead) -> Planned
     requires { ⌜ Valid plan × NameFits name × PlaceFits place ⌝ }
     ensures answer { λ r. ⌜ r ≡ handed unplacedPlan plan (entered (sitesIn plan) (wantedRead name place)) ⌝ }
     ensures valid { λ r. ⌜ Valid (r .plan) ⌝ }
 {
+    let outcome = enter_outcome(plan, name, place);
+    if let Outcome::Refused(why) = outcome {
+        return refuse(plan, why);
+    }
     let n = plan.count;
     let mut names = plan.names;
     let mut places = plan.places;
     let called = name.name;
     let spot = place.place;
-    let named = name_taken(names, n, called);
-    let placed = place_taken(places, n, spot);
-    let outcome = first_failed(!name.ok, !place.ok, n >= Limits::SITES, named, placed);
-    if let Outcome::Refused(why) = outcome {
-        return refuse(plan, why);
-    }
     names[n] = called;
     places[n] = spot;
     let more = Plan::unplaced(n + 1, names, places);

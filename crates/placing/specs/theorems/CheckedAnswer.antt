@@ -21,13 +21,13 @@ use Rattle.placing.specs.theorems.Answer.{first-found, none-found, answe
 use Rattle.placing.specs.theorems.PrunedSearch.{prunedFirst, pruned-first}
 
 -- Two lists of corners are equal.
-abbrev equalTest : List ℕ → List ℕ → Bool
+abbrev pub equalTest : List ℕ → List ℕ → Bool
 equalTest [] [] = true
 equalTest [] (e ∷ es) = false
 equalTest (c ∷ cs) [] = false
 equalTest (c ∷ cs) (e ∷ es) = eqb c e && equalTest cs es
 
-equal-decides : (cs es : List ℕ) → Decides (equalTest cs es) (cs ≡ es)
+pub equal-decides : (cs es : List ℕ) → Decides (equalTest cs es) (cs ≡ es)
 equal-decides [] [] = decides-yes refl
 equal-decides [] (e ∷ es) = decides-no (λ same. cons≢nil (sym same))
 equal-decides (c ∷ cs) [] = decides-no cons≢nil
@@ -80,19 +80,13 @@ answer-right {ps} (Number h) cs places test =
     answer-found places (r .0 .0) (r .0 .1) (found-first (pruned-first (h .0) ps) (r .1 .0))
     (nothing-found (pruned-first (suc (h .0)) ps) (r .1 .1))
 
--- The pruned search finds what plain search does, so that a search is tested by it.
-pruned-same : (h : ℕ) (ps : List Place) → prunedFirst h ps ≡ firstGood h ps
+-- The pruned search finds what plain search does.
+pub pruned-same : (h : ℕ) (ps : List Place) → prunedFirst h ps ≡ firstGood h ps
 pruned-same h ps = by-found (pruned-first h ps)
   where
     by-found : {o : Option (List ℕ)} → FirstWith (Good h ps) o → o ≡ firstGood h ps
     by-found (found good none-before) = sym (first-found (record { good = good; none-before = none-before }))
     by-found (missing no-good) = sym (none-found no-good)
-
-abbrev pub firstTest : ℕ → List Place → Option (List ℕ) → Bool
-firstTest h ps first = foundTest (prunedFirst h ps) first
-
-pub first-right : (h : ℕ) (ps : List Place) (first : Option (List ℕ)) → T (firstTest h ps first) → firstGood h ps ≡ first
-first-right h ps first test = sym (pruned-same h ps) ∙ passed (found-decides (prunedFirst h ps) first) test
 
 -- An answer that passes its test is the answer.
 pub checked-right : (ps : List Place) (answer : Answer) → T (checkedTest ps answer) → answerOf ps ≡ answer

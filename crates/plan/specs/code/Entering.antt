@@ -2,10 +2,9 @@
 -- Assumes nothing.
 use mathlib.Core.Path.{_≡_, refl, sym, ap, ap₂, _∙_}
 use mathlib.Core.Bool.{Bool, true, false, not, _&&_, false≢true}
-use mathlib.Core.List.{List, [], _∷_, _++_}
+use mathlib.Core.List.{List, [], _∷_}
 use mathlib.Core.Option.{Option, some, none}
-use Prim.Native.Nat.{ℕ, _-_, _≤_}
-use native.Mathlib.Omega.{arith}
+use Prim.Native.Nat.{ℕ, _-_}
 use lib.Dec.{leb}
 use lib.ListN.{length, replicate}
 use lib.Seq.{take-append-seam}
@@ -20,23 +19,21 @@ use Rattle.plan.specs.declared.refusal.Outcome.{Outcome}
 use Rattle.plan.specs.declared.refusal.Outcome.the-variants.{Done, Refused}
 use Rattle.plan.specs.declared.refusal.Refusal.{Refusal}
 use Rattle.plan.specs.declared.refusal.Refusal.the-variants as why
-use Rattle.plan.specs.rules.Refusal.{Test, _gives_, firstRefusal, Result, accepted, refused, unless}
+use Rattle.plan.specs.rules.Refusal.{Test, _gives_, firstRefusal, Result, refused, unless, afterTests}
 use Rattle.plan.specs.rules.Text.{mostNameBytes, isName, orZero}
 use Rattle.plan.specs.rules.List.{Site, placeAt, ByRules, Wanted, enterTests, entered, isCoordinate}
 use Rattle.plan.specs.calls.Plan.{unplacedPlan, nameOf, nameHeld, Valid}
 use Rattle.plan.specs.calls.Answers.{handed}
-use Rattle.plan.specs.theorems.Text.{name-short}
-use Rattle.plan.specs.theorems.Entering.{Passed, tests-passed, coordinate-fits}
+use Rattle.plan.specs.theorems.Entering.{Passed, coordinate-fits}
 use Rattle.plan.specs.theorems.Plan.{Holding}
-use Rattle.plan.specs.code.NameRead.{nameRead, nameWhere}
+use Rattle.plan.specs.code.NameRead.{Padded, nameRead, nameWhere}
 use Rattle.plan.specs.code.Coordinate.{coordinateRead, placeRead}
 use Rattle.plan.specs.code.Taken.{siteOf, namesTaken, placesTaken}
 use Rattle.plan.specs.code.PlanLaws.{holding-name, holding-place}
 
--- A name that was read: short, and one by the rules where the reading says so.
+-- A name that was read: padded, and one by the rules where the reading says so.
 pub record NameFits (read : NameRead) : Type 0 where
-  pub short : read .name .len ≤ mostNameBytes
-  pub held : read .ok ≡ true → read .name ≡ nameOf (nameHeld (read .name))
+  pub padded : Padded (read .name)
   pub named : read .ok ≡ true → isName (nameHeld (read .name)) ≡ true
 
 -- A place that was read: on the plan where the reading says so.
@@ -72,39 +69,29 @@ pub outcome-done : (first : Option Refusal) → outcomeOf first ≡ Done → fir
 outcome-done none is = refl
 outcome-done (some other) is = cc
 
-module _ {plan : Plan} {sites : List Site} (holding : Holding plan sites) (name : NameRead) (place : PlaceRead) {outcome : Outcome}
-    {named placed : Bool} (named-is : named ≡ namesTaken (plan .count) (plan .names) (nameHeld (name .name)))
-    (placed-is : placed ≡ placesTaken (plan .count) (plan .places) (place .place))
-    (is : outcome ≡ outcomeOf (firstRefusal (rows (not (name .ok)) (not (place .ok)) (leb mostSites (plan .count)) named placed))) where
-  of-sites : outcomeOf (firstRefusal (enterTests sites (wantedRead name place))) ≡ outcome
-  of-sites =
-      sym
-      (is
-      ∙ (λ k.
-      outcomeOf
-      (firstRefusal
-      (rows (not (name .ok)) (not (place .ok)) (leb mostSites (holding .count k))
-      ((named-is ∙ holding-name holding (nameHeld (name .name))) k)
-      ((placed-is ∙ holding-place holding (place .place)) k)))))
+module _ (tests : List Test) {outcome : Outcome} (is : outcome ≡ outcomeOf (firstRefusal tests)) where
+  -- Refused, so is what the tests decide;
+  pub outcome-refuses : {A : Type 0} (value : A) {why : Refusal} → outcome ≡ Refused why → afterTests tests value ≡ refused why
+  outcome-refuses value so = ap (λ (first : Option Refusal). unless first value) (outcome-refused (firstRefusal tests) (sym is ∙ so))
 
-  -- What entering comes to, from what the table gives.
-  comes : {first : Option Refusal} → firstRefusal (enterTests sites (wantedRead name place)) ≡ first
-      → entered sites (wantedRead name place) ≡ unless first (sites ++ (siteOf (name .name) (place .place) ∷ []))
-  comes = ap (λ (first : Option Refusal). unless first (sites ++ (siteOf (name .name) (place .place) ∷ [])))
+  -- done, no test holds.
+  pub outcome-none : outcome ≡ Done → firstRefusal tests ≡ none
+  outcome-none so = outcome-done (firstRefusal tests) (sym is ∙ so)
 
-  -- Refused, so are the sites.
-  pub read-refused : {why : Refusal} → outcome ≡ Refused why → entered sites (wantedRead name place) ≡ refused why
-  read-refused so = comes (outcome-refused (firstRefusal (enterTests sites (wantedRead name place))) (of-sites ∙ so))
-
-  -- Done, no test holds, and the site stands last.
-  read-none : outcome ≡ Done → firstRefusal (enterTests sites (wantedRead name place)) ≡ none
-  read-none so = outcome-done _ (of-sites ∙ so)
-
-  pub read-passed : outcome ≡ Done → Passed sites (wantedRead name place)
-  read-passed so = tests-passed (read-none so)
-
-  pub read-accepted : outcome ≡ Done → entered sites (wantedRead name place) ≡ accepted (sites ++ (siteOf (name .name) (place .place) ∷ []))
-  read-accepted so = comes (read-none so)
+-- The tests on what a plan holds are those on its sites.
+pub outcome-of-sites : {plan : Plan} {sites : List Site} → Holding plan sites → (name : NameRead) (place : PlaceRead) {outcome : Outcome}
+    {named placed : Bool} → named ≡ namesTaken (plan .count) (plan .names) (nameHeld (name .name))
+    → placed ≡ placesTaken (plan .count) (plan .places) (place .place)
+    → outcome ≡ outcomeOf (firstRefusal (rows (not (name .ok)) (not (place .ok)) (leb mostSites (plan .count)) named placed))
+    → outcome ≡ outcomeOf (firstRefusal (enterTests sites (wantedRead name place)))
+outcome-of-sites holding name place named-is placed-is is =
+    is
+    ∙ (λ k.
+    outcomeOf
+    (firstRefusal
+    (rows (not (name .ok)) (not (place .ok)) (leb mostSites (holding .count k))
+    ((named-is ∙ holding-name holding (nameHeld (name .name))) k)
+    ((placed-is ∙ holding-place holding (place .place)) k))))
 
 -- A site that was read and passes is by the rules.
 pub read-rules : {sites : List Site} {name : NameRead} {place : PlaceRead} → NameFits name → PlaceFits place
@@ -124,12 +111,8 @@ name-fits bytes is = rw is (by-test (isName bytes) refl)
   where
     by-test : (b : Bool) → isName bytes ≡ b → NameFits (record { ok = b; name = nameWhere b bytes })
     by-test true named =
-        record {
-          short = name-short bytes named;
-          held = λ ok. ap nameOf (sym (name-held bytes));
-          named = λ ok. ap isName (name-held bytes) ∙ named;
-        }
-    by-test false unnamed = record { short = omega arith; held = λ ok. absurd (false≢true ok); named = λ ok. absurd (false≢true ok) }
+        record { padded = ap nameOf (sym (name-held bytes)); named = λ ok. ap isName (name-held bytes) ∙ named }
+    by-test false unnamed = record { padded = refl; named = λ ok. absurd (false≢true ok) }
 
 -- What is read of two coordinates as they are written: a place on the plan, and the one that they write, where both are coordinates.
 pub record PlaceIs (n m : Option ℕ) (read : PlaceRead) : Type 0 where

@@ -54,7 +54,7 @@ use Rattle.plan.specs.theorems.Reading.{reads-are, read-listed}
 use Rattle.plan.specs.theorems.Sheet.{answer-listed, sheet-longest, some-to-place}
 use Rattle.plan.specs.theorems.Plan.{sites-unplaced, sites-placed, Holding, holding-unplaced, valid-holding, valid-for}
 use Rattle.plan.specs.theorems.Calls.{write-told}
-use Rattle.plan.specs.theorems.Choosing.{found-done, placed-by}
+use Rattle.plan.specs.theorems.Choosing.{chosen-listed, found-done, placed-by}
 use Rattle.plan.specs.theorems.Output.{sheet-placed, ToPlace, not-placed, to-be-placed, text-to-place}
 use Rattle.plan.specs.code.Put.{Put}
 use Rattle.plan.specs.code.PutLaws.{put-same, put-front, put-taken}
@@ -251,25 +251,6 @@ module _ (side : Side) (given : isSide side ≡ true) (text : List ℕ) where
       by-sites (accepted sites) is = let z : _≡_ {A = ℕ} 0 1 = cc in absurd (omega arith)
       by-sites (refused other) is = refl
 
-  -- What choosing hands back for a list that is read, but for the plan of a refusal.
-  chosen-listed : (sites : List Site) (table : List ℕ) → length sites * length sites ≤ length table
-      → chosenIn (unplacedPlan sites) side table
-      ≡ handed (placedAt side) (unplacedPlan sites) (afterTests (noSites (length sites) ∷ noGood (existsAt side sites) ∷ []) sites)
-  unfolding unplacedPlan
-  chosen-listed sites table room =
-      ap (λ (l : List Site).
-      handed (placedWith l) (unplacedPlan sites)
-      (afterTests (choosingTests side (length sites) (length table) (existsAt side l)) (chosenAt side (placesOf l)))) (sites-unplaced sites)
-      ∙ rw (given, le-ltb (length table) (length sites * length sites) room) (by-tests (eqb (length sites) 0) (not (existsAt side sites)))
-    where
-      by-tests : (b d : Bool)
-          → handed (placedWith sites) (unplacedPlan sites)
-          (unless (firstRefusal (b gives NoSites ∷ false gives ShortTable ∷ d gives NoGoodChoice ∷ [])) (chosenAt side (placesOf sites)))
-          ≡ handed (placedAt side) (unplacedPlan sites) (unless (firstRefusal (b gives NoSites ∷ d gives NoGoodChoice ∷ [])) sites)
-      by-tests true d = refl
-      by-tests false true = refl
-      by-tests false false = refl
-
   -- So, with a table that is long enough, the list is placed,
   module _ {listed chosen : Planned} (table : List ℕ) (size : length table ≡ fullTable) (listed-is : listed ≡ readFrom text)
       (is-read : listed .outcome ≡ Done) (chosen-is : chosen ≡ chosenIn (listed .plan) side table) where
@@ -287,7 +268,16 @@ module _ (side : Side) (given : isSide side ≡ true) (text : List ℕ) where
             ≡ handed (placedAt side) (handed unplacedPlan started sites .plan)
             (after sites (λ l. afterTests (noSites (length l) ∷ noGood (existsAt side l) ∷ []) l))
         by-sites (refused other) read is-read = let z : _≡_ {A = ℕ} 0 1 = cc in absurd (omega arith)
-        by-sites (accepted sites) read is-read = chosen-listed sites table (enough text table size read)
+        by-sites (accepted sites) read is-read =
+            chosen-listed side sites table (enough text table size read) ∙ rw given (by-tests (eqb (length sites) 0) (not (existsAt side sites)))
+          where
+            by-tests : (b d : Bool)
+                → handed (placedWith sites) (unplacedPlan sites)
+                (unless (firstRefusal (b gives NoSites ∷ d gives NoGoodChoice ∷ [])) (chosenAt side (placesOf sites)))
+                ≡ handed (placedAt side) (unplacedPlan sites) (unless (firstRefusal (b gives NoSites ∷ d gives NoGoodChoice ∷ [])) sites)
+            by-tests true d = refl
+            by-tests false true = refl
+            by-tests false false = refl
 
     pub choosing-done : chosen .outcome ≡ Done → chosen ≡ listPlacedAt side text
     choosing-done done = rw given (chosen-comes ∙ go comes (ap outcomeOf (sym chosen-comes) ∙ done))

@@ -1,23 +1,19 @@
 -- Where a line and its fields end, as places in a text, and what becomes of them.
 -- Assumes nothing.
 use mathlib.Core.Path.{_≡_}
-use mathlib.Core.Bool.{true}
-use mathlib.Core.List.{List}
+use mathlib.Core.Bool.{true, false, not}
+use mathlib.Core.List.{List, _∷_}
 use mathlib.Core.Logic.{_≢_}
 use Prim.Native.Nat.{ℕ, _+_, _-_, _≤_, _<_}
 use lib.ListN.{length, getD, take, drop}
 use Rattle.plan.specs.declared.list.LineEnd.{LineEnd}
 use Rattle.plan.specs.declared.list.LineEnd.the-variants.{At, Missing}
 use Rattle.plan.specs.declared.list.LineRead.{LineRead}
-use Rattle.plan.specs.declared.plan.Plan.{Plan}
-use Rattle.plan.specs.declared.plan.Planned.{Planned}
-use Rattle.plan.specs.declared.refusal.Outcome.the-variants.{Refused}
 use Rattle.plan.specs.declared.refusal.Refusal.the-variants.{BadLine}
-use Rattle.plan.specs.rules.Refusal.{Result, afterTests}
-use Rattle.plan.specs.rules.Text.{tab, fieldsOf}
-use Rattle.plan.specs.rules.List.{Site, withSite, mostLineBytes, wantedIn, TextLine, FirstLine, fieldsTests}
-use Rattle.plan.specs.calls.Plan.{unplacedPlan, sitesIn}
-use Rattle.plan.specs.calls.Answers.{handed}
+use Rattle.plan.specs.rules.Refusal.{Test, _gives_, Result, afterTests}
+use Rattle.plan.specs.rules.Text.{tab}
+use Rattle.plan.specs.rules.List.{Site, enterTests, withSite, mostLineBytes, wantedIn, TextLine, FirstLine, fieldsTests}
+use Rattle.plan.specs.code.Entering.{NameFits, wantedRead}
 
 -- No byte b in a text from a place on up to another.
 pub record NoByte (b : ℕ) (text : List ℕ) (at end : ℕ) : Type 0 where
@@ -54,9 +50,17 @@ LineEnds text at Missing = (line : TextLine) → FirstLine (drop at text) line �
 abbrev pub enteredFields : List Site → List (List ℕ) → Result (List Site)
 enteredFields sites fields = afterTests (fieldsTests sites fields) (withSite sites (wantedIn fields))
 
--- What reading the line that starts at a place hands back: refused where its end is missing, else what entering it in the plan gives.
-pub data LineReads (plan : Plan) (text : List ℕ) (at : ℕ) : LineRead → Type 0 where
-  no-line : LineEnds text at Missing → LineReads plan text at (record { outcome = Refused BadLine; plan = plan; next = at })
-  a-line : {end : ℕ} (entered : Planned) → LineAt text at end
-      → entered ≡ handed unplacedPlan plan (enteredFields (sitesIn plan) (fieldsOf (between text at end)))
-      → LineReads plan text at (record { outcome = entered .outcome; plan = entered .plan; next = end + 1 })
+-- The tests of a line, over what was read of it.
+abbrev pub readTests : List Site → LineRead → List Test
+readTests sites line = not (line .three) gives BadLine ∷ enterTests sites (wantedRead (line .name) (line .place))
+
+-- What is read of a line with these fields: entering it comes to what entering them does.
+pub record LineReads (fields : List (List ℕ)) (line : LineRead) : Type 0 where
+  pub fits : NameFits (line .name)
+  pub enters : (sites : List Site)
+      → enteredFields sites fields ≡ afterTests (readTests sites line) (withSite sites (wantedRead (line .name) (line .place)))
+
+-- What is read of a line of other than three fields.
+pub record NoFields (line : LineRead) : Type 0 where
+  pub not-three : line .three ≡ false
+  pub fits : NameFits (line .name)

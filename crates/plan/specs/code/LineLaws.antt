@@ -12,13 +12,12 @@ use native.Mathlib.Omega.{arith}
 use lib.ListN.{length, getD, take, drop, length-append, length-drop, take-append-drop}
 use lib.Seq.{drop-cons, drop-drop, getD-drop, getD-take, getD-append-seam, length-take-le, take-all}
 use borrow.Author.Tests.{ne-eqb}
-use Rattle.plan.specs.declared.refusal.Refusal.the-variants.{BadLine}
-use Rattle.plan.specs.rules.Refusal.{refused}
+use Rattle.plan.specs.declared.list.LineRead.{LineRead}
 use Rattle.plan.specs.rules.Text.{tab, lineFeed, Without, fieldsOf}
-use Rattle.plan.specs.rules.List.{Site, mostLineBytes, TextLine, FirstLine, with-feed}
+use Rattle.plan.specs.rules.List.{mostLineBytes, TextLine, FirstLine, with-feed}
 use Rattle.plan.specs.theorems.Text.{parted-one, parted-more, parted-some}
 use Rattle.plan.specs.theorems.Reading.{first-line-whole}
-use Rattle.plan.specs.code.Line.{NoByte, between, FieldEnd, lineAt, LineAt, enteredFields}
+use Rattle.plan.specs.code.Line.{NoByte, between, FieldEnd, lineAt, LineAt, LineReads, NoFields}
 
 -- ---- the bytes up to a byte
 
@@ -116,28 +115,30 @@ module _ {line : List ℕ} {at end : ℕ} (found : FieldEnd line at end) where
       let all : between line at end ≡ drop at line = take-all (end - at) (drop at line) (omega (arith, length-drop at line)) in
       ap fieldsOf (sym all) ∙ parted-one tab (between line at end) (between-without (found .no-tab))
 
--- ---- entering a line
+-- ---- reading a line
 
--- Other than three fields are refused.
-not-three : (sites : List Site) (fields : List (List ℕ)) → length fields ≢ 3 → enteredFields sites fields ≡ refused BadLine
-not-three sites fields other = rw (ne-eqb (length fields) 3 other)
+-- Nothing is read of other than three fields, and entering them is refused.
+pub none-read : {fields : List (List ℕ)} {line : LineRead} → length fields ≢ 3 → NoFields line → LineReads fields line
+none-read {fields} {line} other none =
+    record {
+      fits = none .fits;
+      enters = λ sites. rw (ne-eqb (length fields) 3 other, none .not-three);
+    }
 
 -- A line by the ends of its fields that are found: of one,
-module _ (sites : List Site) {line : List ℕ} {first : ℕ} (one : FieldEnd line 0 first) where
-  pub line-of-one : first ≡ length line → enteredFields sites (fieldsOf line) ≡ refused BadLine
-  line-of-one ends = not-three sites (fieldsOf line) (λ three. omega (arith, three, ap length (field-last one ends)))
+module _ {line : List ℕ} {first : ℕ} (one : FieldEnd line 0 first) where
+  pub line-of-one : first ≡ length line → length (fieldsOf line) ≢ 3
+  line-of-one ends three = omega (arith, three, ap length (field-last one ends))
 
   -- of two,
   module _ {second : ℕ} (on : first ≢ length line) (two : FieldEnd line (first + 1) second) where
-    pub line-of-two : second ≡ length line → enteredFields sites (fieldsOf line) ≡ refused BadLine
-    line-of-two ends =
-        not-three sites (fieldsOf line) (λ three. omega (arith, three, ap length (field-more one on), ap length (field-last two ends)))
+    pub line-of-two : second ≡ length line → length (fieldsOf line) ≢ 3
+    line-of-two ends three = omega (arith, three, ap length (field-more one on), ap length (field-last two ends))
 
-    -- of more than three, and of three, which are entered as they are.
+    -- of more than three, and of three.
     module _ {third : ℕ} (further : second ≢ length line) (three : FieldEnd line (second + 1) third) where
-      pub line-of-four : third ≢ length line → enteredFields sites (fieldsOf line) ≡ refused BadLine
-      line-of-four more =
-          not-three sites (fieldsOf line) (λ is.
+      pub line-of-four : third ≢ length line → length (fieldsOf line) ≢ 3
+      line-of-four more is =
           omega (
             arith,
             is,
@@ -145,14 +146,12 @@ module _ (sites : List Site) {line : List ℕ} {first : ℕ} (one : FieldEnd lin
             ap length (field-more two further),
             ap length (field-more three more),
             parted-some tab (drop (third + 1) line),
-          ))
+          )
 
       pub line-of-three : third ≡ length line
-          → enteredFields sites (fieldsOf line)
-          ≡ enteredFields sites (take first line ∷ between line (first + 1) second ∷ between line (second + 1) (length line) ∷ [])
+          → fieldsOf line ≡ take first line ∷ between line (first + 1) second ∷ between line (second + 1) (length line) ∷ []
       line-of-three ends =
-          ap (enteredFields sites)
-          (field-more one on
+          field-more one on
           ∙ ap₂ (λ (k : ℕ) (fields : List (List ℕ)). take k line ∷ fields) (sub-zero first)
           (field-more two further ∙ ap (λ (fields : List (List ℕ)). between line (first + 1) second ∷ fields)
-          (field-last three ends ∙ ap (λ (end : ℕ). between line (second + 1) end ∷ []) ends)))
+          (field-last three ends ∙ ap (λ (end : ℕ). between line (second + 1) end ∷ []) ends))

@@ -1,4 +1,4 @@
--- Reading a name byte by byte, and comparing two texts byte by byte.
+-- Reading a name byte by byte, comparing two texts byte by byte, and two records of names.
 -- Assumes nothing.
 use mathlib.Core.Bool.{Bool, true, false, _&&_, and-false, or-false}
 use mathlib.Core.List.{List, [], _∷_, _++_}
@@ -12,11 +12,12 @@ use lib.Dec.{eqb, leb}
 use lib.ListN.{length, getD, take, drop, replicate, length-replicate, drop-of-length-le}
 use lib.Seq.{drop-cons, take-length}
 use borrow.Author.Tests.{le-leb, lt-leb, ne-eqb}
+use Rattle.plan.specs.declared.name.Name.{Name}
 use Rattle.plan.specs.declared.name.NameRead.{NameRead}
 use Rattle.plan.specs.rules.Text.{isNameByte, allNameBytes, isName, sameBytes, mostNameBytes}
-use Rattle.plan.specs.calls.Plan.{nameOf}
-use Rattle.plan.specs.theorems.Text.{name-short}
-use Rattle.plan.specs.code.NameRead.{noRead, nameWhere, nameRead}
+use Rattle.plan.specs.calls.Plan.{nameOf, nameHeld}
+use Rattle.plan.specs.theorems.Text.{name-short, same-bytes-same, same-bytes-refl}
+use Rattle.plan.specs.code.NameRead.{Padded, noRead, nameWhere, nameRead}
 use Rattle.plan.specs.code.Put.{Put}
 use Rattle.plan.specs.code.PutLaws.{put-same, put-front}
 
@@ -101,3 +102,15 @@ same-from a b i within-a within-b e = rw (add-one, drop-cons a i 0, drop-cons b 
 pub same-end : (a b : List ℕ) (i : ℕ) → length a ≤ i → length b ≤ i → sameBytes (drop i a) (drop i b) ≡ true
 unfolding sameBytes
 same-end a b i past-a past-b = rw (drop-of-length-le a past-a, drop-of-length-le b past-b)
+
+-- Two records hold the same name where they are the same,
+pub same-record : {a b : Name} → a .bytes ≡ b .bytes → a .len ≡ b .len → sameBytes (nameHeld a) (nameHeld b) ≡ true
+same-record {a} {b} bytes len = (λ k. sameBytes (take (len k) (bytes k)) (nameHeld b)) ∙ same-bytes-refl (nameHeld b)
+
+-- and only there.
+pub other-record : {a b : Name} → Padded a → Padded b → a ≢ b → sameBytes (nameHeld a) (nameHeld b) ≡ false
+other-record {a} {b} padded-a padded-b other = by-test (sameBytes (nameHeld a) (nameHeld b)) refl
+  where
+    by-test : (t : Bool) → sameBytes (nameHeld a) (nameHeld b) ≡ t → t ≡ false
+    by-test false is = refl
+    by-test true is = absurd (other (padded-a ∙ ap nameOf (same-bytes-same (nameHeld a) (nameHeld b) is) ∙ sym padded-b))

@@ -7,7 +7,7 @@ use mathlib.Core.Option.{none}
 use Prim.Native.Nat.{ℕ, suc, _+_, _-_, _*_, _≤_, _<_}
 use native.Mathlib.Omega.{arith}
 use lib.ListN.{length, getD, take, set, replicate, length-map, length-append, List·getD-append, List·getD-map}
-use lib.Seq.{take-at, set-at}
+use lib.Seq.{take-append-seam, take-at, set-at}
 use borrow.Author.Tests.{eqb-false, ltb-false}
 use Rattle.placing.specs.declared.choice.Choice.{Choice}
 use Rattle.placing.specs.declared.units.Place.{Place}
@@ -20,16 +20,15 @@ use Rattle.placing.specs.calls.Placing.{choiceAs, MayPlace}
 use Rattle.plan.specs.declared.name.Name.{Name}
 use Rattle.plan.specs.declared.plan.Plan.{Plan}
 use Rattle.plan.specs.rules.Refusal.{firstRefusal}
-use Rattle.plan.specs.rules.Text.{mostNameBytes}
 use Rattle.plan.specs.rules.Calls.{findingTests}
 use Rattle.plan.specs.rules.List.{Site, noSite, placeOf, placesOf, nameTaken, placeTaken}
 use Rattle.plan.specs.calls.Plan.{nameOf, nameHeld, nameRecord, namesHeld, placesHeld, unplacedPlan, placedWith, Valid, is-unplaced}
 use Rattle.plan.specs.deciding.Output.{existsAt}
-use Rattle.plan.specs.theorems.Text.{name-short}
 use Rattle.plan.specs.theorems.Tables.{rows-none}
 use Rattle.plan.specs.theorems.Sites.{listed-none, listed-in-range}
 use Rattle.plan.specs.theorems.Plan.{Holding}
-use Rattle.plan.specs.code.Taken.{siteOf, ShortNames, namesTaken, placesTaken, names-of-sites, places-of-sites}
+use Rattle.plan.specs.code.NameRead.{Padded}
+use Rattle.plan.specs.code.Taken.{siteOf, PaddedNames, namesTaken, placesTaken, names-of-sites, places-of-sites}
 
 -- A plan that is not placed, from its count, names and places.
 abbrev pub unplacedOf : ℕ → List Name → List Place → Plan
@@ -47,18 +46,18 @@ empty-valid e = subst Valid (sym (empty-started e)) (is-unplaced [] listed-none)
 
 -- ---- reading what a plan holds
 
--- The names that it holds are short.
-pub holding-short : {plan : Plan} {sites : List Site} → Holding plan sites → ShortNames (plan .count) (plan .names)
-holding-short {plan} {sites} holding = rw (holding .count, holding .names) (record { short = held })
+-- The names that it holds are padded.
+pub holding-padded : {plan : Plan} {sites : List Site} → Holding plan sites → PaddedNames (plan .count) (plan .names)
+holding-padded {plan} {sites} holding = rw (holding .count, holding .names) (record { padded = held })
   where
-    held : (i : ℕ) → i < length sites → getD (namesHeld sites) i (nameOf []) .len ≤ mostNameBytes
+    held : (i : ℕ) → i < length sites → Padded (getD (namesHeld sites) i (nameOf []))
     held i below =
         rw (
           List·getD-append (map nameRecord sites) (replicate (mostSites - length sites) (nameOf [])) (nameOf []) i
               (omega (arith, length-map sites nameRecord)),
           List·getD-map nameRecord sites i noSite,
         )
-        (name-short (getD sites i noSite .name) (holding .listed .by-rules i below .named))
+        (ap nameOf (sym (take-append-seam (getD sites i noSite .name) _)))
 
 -- Its places, the empty slots left out.
 pub holding-places : {plan : Plan} {sites : List Site} → Holding plan sites → take (plan .count) (plan .places) ≡ placesOf sites

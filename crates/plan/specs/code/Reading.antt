@@ -1,25 +1,27 @@
 -- Reading a list line after line: what holds of the plan so far and of the text that is left.
 -- Assumes nothing.
-use mathlib.Core.Path.{_≡_, refl, sym, ap, _∙_, subst}
+use mathlib.Core.Path.{_≡_, refl, sym, ap, _∙_}
 use mathlib.Core.Bool.{Bool, true, false}
 use mathlib.Core.List.{List, [], _∷_, _++_}
+use mathlib.Core.Option.{Option, none}
 use Prim.Native.Nat.{ℕ, _+_, _≤_, _<_}
 use native.Mathlib.Omega.{arith}
 use borrow.Author.Tests.{le-ltb, lt-ltb}
-use lib.ListN.{length, drop, length-drop, drop-of-length-le}
+use lib.ListN.{length, drop, set, length-drop, drop-of-length-le}
 use Rattle.placing.specs.rules.Units.{mostSites}
 use Rattle.plan.specs.declared.list.LineEnd.the-variants.{Missing}
 use Rattle.plan.specs.declared.list.LineRead.{LineRead}
 use Rattle.plan.specs.declared.list.LinesRead.{LinesRead}
 use Rattle.plan.specs.declared.list.Stop.the-variants.{AtLine, Nowhere}
+use Rattle.plan.specs.declared.refusal.Outcome.{Outcome}
 use Rattle.plan.specs.declared.refusal.Outcome.the-variants.{Done, Refused}
 use Rattle.plan.specs.declared.refusal.Refusal.{Refusal}
 use Rattle.plan.specs.declared.refusal.Refusal.the-variants.{BadLine}
 use Rattle.plan.specs.declared.plan.Plan.{Plan}
 use Rattle.plan.specs.declared.plan.Planned.{Planned}
-use Rattle.plan.specs.rules.Refusal.{Result, accepted, refused}
+use Rattle.plan.specs.rules.Refusal.{firstRefusal, Result, accepted, refused, unless, afterTests}
 use Rattle.plan.specs.rules.Text.{lineFeed, fieldsOf}
-use Rattle.plan.specs.rules.List.{Site, Listed, listText, mostLineBytes, TextLine, FirstLine, lineEntered}
+use Rattle.plan.specs.rules.List.{Site, Listed, withSite, listText, mostLineBytes, TextLine, FirstLine, lineEntered}
 use Rattle.plan.specs.rules.List.{Reads, end, refused-line, accepted-line}
 use Rattle.plan.specs.deciding.Reading.{cutLine}
 use Rattle.plan.specs.calls.Plan.{unplacedPlan, sitesIn, Valid, is-unplaced}
@@ -28,8 +30,12 @@ use Rattle.plan.specs.Demands.{StopTold, at-a-line, at-no-line}
 use Rattle.plan.specs.theorems.Sites.{listed-none}
 use Rattle.plan.specs.theorems.Reading.{cut-first-line, first-line-whole, LineOf, entered-line, list-one-more}
 use Rattle.plan.specs.theorems.Reading.{first-refused, reads-are}
-use Rattle.plan.specs.theorems.Plan.{sites-unplaced}
-use Rattle.plan.specs.code.Line.{between, lineAt, LineAt, LineEnds, enteredFields, LineReads, no-line, a-line}
+use Rattle.plan.specs.theorems.Tables.{rest-none}
+use Rattle.plan.specs.theorems.Entering.{Passed, tests-passed}
+use Rattle.plan.specs.theorems.Plan.{sites-unplaced, valid-holding}
+use Rattle.plan.specs.code.PlanLaws.{holding-more}
+use Rattle.plan.specs.code.Entering.{wantedRead, outcomeOf, outcome-refuses, outcome-none}
+use Rattle.plan.specs.code.Line.{between, lineAt, LineAt, LineEnds, enteredFields, readTests, LineReads}
 use Rattle.plan.specs.code.CallLaws.{refusal-of}
 
 -- The lines up to a place are entered in a plan, and what reading the rest after them comes to, reading the whole text does.
@@ -41,6 +47,18 @@ pub record Reading (text : List ℕ) (plan : Plan) (at : ℕ) : Type 0 where
   pub parts : text ≡ listText sites ++ drop at text
   pub onward : (result : Result (List Site)) → Reads sites (drop at text) result → Reads [] text result
 
+-- A plan with what was read of a line behind its sites.
+abbrev pub withRead : Plan → LineRead → Plan
+withRead plan line =
+    record {
+      count = plan .count + 1;
+      names = set (plan .names) (plan .count) (line .name .name);
+      places = set (plan .places) (plan .count) (line .place .place);
+      placed = plan .placed;
+      side = plan .side;
+      corners = plan .corners;
+    }
+
 -- Reading is over: at a line that is refused, or at the text's end.
 pub data LinesReads (text : List ℕ) : LinesRead → Type 0 where
   stops : {plan : Plan} {at : ℕ} {line : TextLine} {why : Refusal} (so-far : Reading text plan at) → FirstLine (drop at text) line
@@ -51,18 +69,6 @@ pub data LinesReads (text : List ℕ) : LinesRead → Type 0 where
 -- No answer is both.
 refused-not-done : {why : Refusal} → Refused why ≡ Done → ⊥
 refused-not-done so = let z : _≡_ {A = ℕ} 0 1 = cc in absurd (omega arith)
-
--- What an answer tells of what a call came to.
-module _ (plan : Plan) {r : Planned} where
-  answer-refused : (result : Result (List Site)) {why : Refusal} → r ≡ handed unplacedPlan plan result → r .outcome ≡ Refused why
-      → result ≡ refused why
-  answer-refused (accepted next) is so = cc
-  answer-refused (refused other) is so = cc
-
-  answer-done : (result : Result (List Site)) → r ≡ handed unplacedPlan plan result → r .outcome ≡ Done
-      → (next : List Site) × (result ≡ accepted next) × (r .plan ≡ unplacedPlan next)
-  answer-done (accepted next) is so = (next, refl, ap (λ (p : Planned). p .plan) is)
-  answer-done (refused other) is so = absurd (refused-not-done (sym (ap (λ (p : Planned). p .outcome) is) ∙ so))
 
 -- At the start, with the empty plan.
 pub reading-starts : (text : List ℕ) (plan : Plan) → plan ≡ started → Reading text plan 0
@@ -85,66 +91,80 @@ module _ {text : List ℕ} {plan : Plan} {at : ℕ} (so-far : Reading text plan 
   reading-all past = so-far .onward (accepted (so-far .sites)) (rw (drop-of-length-le text past) end)
 
   -- Before it, without a whole line from there on, reading stops.
-  reading-missing : at < length text → LineEnds text at Missing
-      → LinesReads text (record { outcome = Refused BadLine; plan = plan; at = at })
-  reading-missing further missing =
+  pub reading-missing : {r : LinesRead} → at < length text → LineEnds text at Missing
+      → r ≡ record { outcome = Refused BadLine; plan = plan; at = at } → LinesReads text r
+  reading-missing further missing is =
       let line = cutLine (drop at text) in
       let first = cut-first-line (drop at text) (omega (arith, length-drop at text)) in
-      stops so-far first (by-end (line .ended) (line .bytes) (line .rest) (missing line first))
+      rw is (stops so-far first (by-end (line .ended) (line .bytes) (line .rest) (missing line first)))
     where
       by-end : (ended : Bool) (bytes rest : List ℕ) → (ended ≡ true → mostLineBytes < length bytes)
           → lineEntered (so-far .sites) (record { bytes = bytes; ended = ended; rest = rest }) ≡ refused BadLine
       by-end false bytes rest long = refl
       by-end true bytes rest long = rw (lt-ltb mostLineBytes (length bytes) (long refl))
 
-  -- With one, it is entered: the plan so far holds the sites so far.
-  sites-so-far : sitesIn plan ≡ so-far .sites
-  sites-so-far = ap sitesIn (so-far .held) ∙ sites-unplaced (so-far .sites)
+  -- With one, its tests tell what the line comes to.
+  module _ {end : ℕ} (found : LineAt text at end) {line : LineRead} (reads : LineReads (fieldsOf (between text at end)) line) {outcome : Outcome}
+      (is : outcome ≡ outcomeOf (firstRefusal (readTests (sitesIn plan) line))) where
+    abbrev next : List Site
+    next = withSite (sitesIn plan) (wantedRead (line .name) (line .place))
 
-  module _ {end : ℕ} (found : LineAt text at end) {r : Planned}
-      (is : r ≡ handed unplacedPlan plan (enteredFields (sitesIn plan) (fieldsOf (between text at end)))) where
-    line-is : lineEntered (so-far .sites) (lineAt text at end) ≡ enteredFields (sitesIn plan) (fieldsOf (between text at end))
+    line-is : lineEntered (so-far .sites) (lineAt text at end) ≡ afterTests (readTests (sitesIn plan) line) next
     line-is =
         rw
         (le-ltb mostLineBytes (length (between text at end)) (found .short))
-        (ap (λ (s : List Site). enteredFields s (fieldsOf (between text at end))) (sym sites-so-far))
+        (ap (λ (s : List Site). enteredFields s (fieldsOf (between text at end))) (sym (ap sitesIn (so-far .held) ∙ sites-unplaced (so-far .sites))))
+        ∙ reads .enters (sitesIn plan)
 
     -- Refused, reading stops.
-    reading-refused : {why : Refusal} → r .outcome ≡ Refused why
-        → LinesReads text (record { outcome = Refused why; plan = plan; at = at })
-    reading-refused so = stops so-far (found .first) (line-is ∙ answer-refused plan _ is so)
+    pub reading-refused : {r : LinesRead} {why : Refusal} → outcome ≡ Refused why
+        → r ≡ record { outcome = Refused why; plan = plan; at = at } → LinesReads text r
+    reading-refused so r-is = rw r-is (stops so-far (found .first) (line-is ∙ outcome-refuses (readTests (sitesIn plan) line) is next so))
 
-    -- Accepted, one line more is read.
-    reading-on : r .outcome ≡ Done → Reading text (r .plan) (end + 1)
-    reading-on so =
-        let (next, accepts, held) = answer-done plan _ is so in
-        let line : LineOf (so-far .sites) (lineAt text at end) next = entered-line (line-is ∙ accepts) in
-        record {
-          sites = next;
-          held = held;
-          listed = line .next-listed (so-far .listed);
-          within = omega (arith, found .inside);
-          parts =
-              so-far .parts
-              ∙ ap (λ (l : List ℕ). listText (so-far .sites) ++ l) (first-line-whole (found .first) refl)
-              ∙ ap (λ (l : List ℕ). listText (so-far .sites) ++ (l ++ (lineFeed ∷ drop (end + 1) text))) (line .written)
-              ∙ list-one-more (so-far .sites) (line .site) (drop (end + 1) text)
-              ∙ ap (λ (s : List Site). listText s ++ drop (end + 1) text) (sym (line .next-is));
-          onward = λ result reads. so-far .onward result (accepted-line (found .first) (line-is ∙ accepts) reads);
-        }
+    -- Accepted, there is room for its site,
+    module _ (so : outcome ≡ Done) where
+      none-holds : firstRefusal (readTests (sitesIn plan) line) ≡ none
+      none-holds = outcome-none (readTests (sitesIn plan) line) is so
 
-  -- Where reading a line is refused, reading stops there.
-  pub line-stops : {r : LineRead} {why : Refusal} → at < length text → LineReads plan text at r → r .outcome ≡ Refused why
-      → LinesReads text (record { outcome = Refused why; plan = plan; at = at })
-  line-stops {why = why} further (no-line missing) so =
-      let same : BadLine ≡ why = cc in
-      subst (λ (w : Refusal). LinesReads text (record { outcome = Refused w; plan = plan; at = at })) same (reading-missing further missing)
-  line-stops further (a-line entered found is) so = reading-refused found is so
+      passed : Passed (sitesIn plan) (wantedRead (line .name) (line .place))
+      passed = tests-passed (rest-none 1 (readTests (sitesIn plan) line) none-holds)
 
-  -- Where it is accepted, one line more is read, and the next one starts further on.
-  pub line-on : {r : LineRead} → LineReads plan text at r → r .outcome ≡ Done → Reading text (r .plan) (r .next) × (at < r .next)
-  line-on (no-line missing) so = absurd (refused-not-done so)
-  line-on (a-line entered found is) so = (reading-on found is so, omega (arith, found .after))
+      pub reading-room : plan .count < mostSites
+      reading-room = omega (arith, valid-holding reading-valid .count, passed .room)
+
+      -- and with it one line more is read.
+      accepts : lineEntered (so-far .sites) (lineAt text at end) ≡ accepted next
+      accepts = line-is ∙ ap (λ (first : Option Refusal). unless first next) none-holds
+
+      held-next : withRead plan line ≡ unplacedPlan next
+      unfolding unplacedPlan
+      held-next =
+          (λ k. record {
+            count = plan .count + 1;
+            names = set (plan .names) (plan .count) (line .name .name);
+            places = set (plan .places) (plan .count) (line .place .place);
+            placed = so-far .held k .placed;
+            side = so-far .held k .side;
+            corners = so-far .held k .corners;
+          })
+          ∙ holding-more (valid-holding reading-valid) (line .name .name) (line .place .place) (reads .fits .padded) reading-room
+
+      pub reading-on : Reading text (withRead plan line) (end + 1)
+      reading-on =
+          let of : LineOf (so-far .sites) (lineAt text at end) next = entered-line accepts in
+          record {
+            sites = next;
+            held = held-next;
+            listed = of .next-listed (so-far .listed);
+            within = omega (arith, found .inside);
+            parts =
+                so-far .parts
+                ∙ ap (λ (l : List ℕ). listText (so-far .sites) ++ l) (first-line-whole (found .first) refl)
+                ∙ ap (λ (l : List ℕ). listText (so-far .sites) ++ (l ++ (lineFeed ∷ drop (end + 1) text))) (of .written)
+                ∙ list-one-more (so-far .sites) (of .site) (drop (end + 1) text)
+                ∙ ap (λ (s : List Site). listText s ++ drop (end + 1) text) (sym (of .next-is));
+            onward = λ result reads. so-far .onward result (accepted-line (found .first) accepts reads);
+          }
 
 -- ---- reading is over
 

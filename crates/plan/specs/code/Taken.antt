@@ -3,7 +3,7 @@
 use mathlib.Core.Path.{_≡_, refl, ap, ap₂}
 use mathlib.Core.Bool.{Bool, true, false, _&&_, _||_}
 use mathlib.Core.List.{List, [], _∷_, _++_, map}
-use Prim.Native.Nat.{ℕ, zero, suc, _+_, _-_, _≤_, _<_}
+use Prim.Native.Nat.{ℕ, zero, suc, _+_, _-_, _<_}
 use native.Mathlib.Nat.{not-suc-le-zero, le-of-suc-le-suc}
 use native.Mathlib.Numerals.{add-one}
 use borrow.Author.Tests.{eq-eqb, ne-eqb}
@@ -17,14 +17,15 @@ use Rattle.plan.specs.declared.name.Name.{Name}
 use Rattle.plan.specs.rules.Text.{mostNameBytes, sameBytes}
 use Rattle.plan.specs.rules.List.{Site, placeOf, among, nameTaken, placeTaken}
 use Rattle.plan.specs.calls.Plan.{nameOf, nameHeld, nameRecord, namesHeld, placesHeld}
+use Rattle.plan.specs.code.NameRead.{Padded}
 
 -- The site of a name's record at a place.
 abbrev pub siteOf : Name → Place → Site
 siteOf name place = record { name = nameHeld name; place = place }
 
--- The first n names are at most 8 bytes long.
-pub record ShortNames (n : ℕ) (names : List Name) : Type 0 where
-  pub short : (i : ℕ) → i < n → getD names i (nameOf []) .len ≤ mostNameBytes
+-- The first n names are padded.
+pub record PaddedNames (n : ℕ) (names : List Name) : Type 0 where
+  pub padded : (i : ℕ) → i < n → Padded (getD names i (nameOf []))
 
 -- One of the first n names is this one.
 abbrev pub isNamed : List ℕ → Name → Bool
@@ -78,9 +79,9 @@ same-element [] i d e below = absurd (not-suc-le-zero below)
 same-element (a ∷ l) zero d e below = refl
 same-element (a ∷ l) (suc i) d e below = same-element l i d e (le-of-suc-le-suc below)
 
--- A held name is short.
-pub held-short : {n : ℕ} {names : List Name} → ShortNames n names → (i : ℕ) (d : Name) → i < n → i < length names → getD names i d .len ≤ mostNameBytes
-held-short {n} {names} held i d counted below = rw (same-element names i d (nameOf []) below) (held .short i counted)
+-- A held name is padded.
+pub held-padded : {n : ℕ} {names : List Name} → PaddedNames n names → (i : ℕ) (d : Name) → i < n → i < length names → Padded (getD names i d)
+held-padded {n} {names} held i d counted below = rw (same-element names i d (nameOf []) below) (held .padded i counted)
 
 -- Two places with another x are not the same, and with the same x y decides.
 module _ (a b : Place) where

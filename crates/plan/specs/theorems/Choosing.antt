@@ -21,13 +21,13 @@ use Rattle.plan.specs.declared.refusal.Refusal.{Refusal}
 use Rattle.plan.specs.declared.refusal.Refusal.the-variants.{BadNumber, NoSites, ShortTable, NoGoodChoice}
 use Rattle.plan.specs.declared.plan.Plan.{Plan}
 use Rattle.plan.specs.declared.plan.Planned.{Planned}
-use Rattle.plan.specs.rules.Refusal.{numberOf, _gives_, firstRefusal, refusalNumber, accepted, unless}
+use Rattle.plan.specs.rules.Refusal.{numberOf, _gives_, firstRefusal, accepted, unless, afterTests}
 use Rattle.plan.specs.rules.List.{Site, placesOf, Listed}
-use Rattle.plan.specs.rules.Calls.{findingTests, choosingTests}
+use Rattle.plan.specs.rules.Calls.{outside, noSites, noGood, choosingTests}
 use Rattle.plan.specs.deciding.Output.{existsAt}
 use Rattle.plan.specs.calls.Plan.{unplacedPlan, placedWith, placedPlan, sitesIn, Valid, is-unplaced, is-placed}
 use Rattle.plan.specs.calls.Answers.{outcomeNumber, handed, sideFound, chosenFor, chosenIn}
-use Rattle.plan.specs.theorems.Plan.{Holding, valid-holding, sites-placed}
+use Rattle.plan.specs.theorems.Plan.{Holding, sites-unplaced, sites-placed}
 
 -- 12 is given only where no good choice exists at the side.
 pub twelve-none : (plan : Plan) (side : Side) (table : List ℕ) → outcomeNumber (chosenIn plan side table .outcome) ≡ 12
@@ -46,6 +46,30 @@ twelve-none plan side table twelve some-good =
     by-tests false false true e there number = omega arith
     by-tests false false false true there number = omega arith
     by-tests false false false false there number = false≢true there
+
+-- Of the plan of a list, with a table that is long enough, 11 need not be tested.
+pub chosen-listed : (side : Side) (sites : List Site) (table : List ℕ) → length sites * length sites ≤ length table
+    → chosenIn (unplacedPlan sites) side table
+    ≡ handed (placedWith sites) (unplacedPlan sites)
+    (afterTests (outside side ∷ noSites (length sites) ∷ noGood (existsAt side sites) ∷ []) (chosenAt side (placesOf sites)))
+unfolding unplacedPlan
+chosen-listed side sites table room =
+    ap (λ (l : List Site).
+    handed (placedWith l) (unplacedPlan sites)
+    (afterTests (choosingTests side (length sites) (length table) (existsAt side l)) (chosenAt side (placesOf l)))) (sites-unplaced sites)
+    ∙ rw (le-ltb (length table) (length sites * length sites) room)
+    (by-tests (not (isSide side)) (eqb (length sites) 0) (not (existsAt side sites)))
+  where
+    by-tests : (a b d : Bool)
+        → handed (placedWith sites) (unplacedPlan sites)
+        (unless (firstRefusal (a gives BadNumber ∷ b gives NoSites ∷ false gives ShortTable ∷ d gives NoGoodChoice ∷ []))
+        (chosenAt side (placesOf sites)))
+        ≡ handed (placedWith sites) (unplacedPlan sites)
+        (unless (firstRefusal (a gives BadNumber ∷ b gives NoSites ∷ d gives NoGoodChoice ∷ [])) (chosenAt side (placesOf sites)))
+    by-tests true b d = refl
+    by-tests false true d = refl
+    by-tests false false true = refl
+    by-tests false false false = refl
 
 -- Of a plan with some sites, and a table that is long enough.
 module _ (plan : Plan) (table : List ℕ) (some-sites : plan .count ≡ 0 → ⊥) (room : plan .count * plan .count ≤ length table) where

@@ -1,5 +1,5 @@
--- Document 01, "Known answers": the cases marked P, as rows of one table with a theorem over the rows: what the calls of starting,
--- entering and placing lead to. Each row is tested by entering its sites and by the pruned search, which the checker computes, so
+-- Document 01, "Known answers": the cases marked P, and some at given sides, as rows of one table with a theorem over the rows: what the
+-- calls of starting, entering, finding and choosing lead to. Each row is tested by entering its sites and by the pruned search, which the checker computes, so
 -- that a row more needs no proof.
 -- Assumes nothing.
 use mathlib.Core.Path.{_≡_, refl, sym, ap, _∙_, subst}
@@ -10,30 +10,39 @@ use mathlib.Core.Option.{Option, some, none}
 use Prim.Native.Nat.{ℕ, suc, _+_, _*_, _≤_}
 use native.Mathlib.Nat.{le-trans, mul-le-mul}
 use native.Mathlib.Omega.{arith}
-use borrow.Author.Tests.{le-ltb, ne-eqb}
 use lib.Dec.{T, eqb, lit≤}
 use lib.ListN.{length}
 use Rattle.placing.specs.declared.units.Place.{Place}
+use Rattle.placing.specs.declared.units.Side.{Side}
+use Rattle.placing.specs.declared.units.Side.the-variants.{Number, Free}
 use Rattle.placing.specs.rules.Choice.{MeetingPair}
-use Rattle.placing.specs.rules.Answer.{Answer, numbered, free}
+use Rattle.placing.specs.rules.Answer.{Answer, isSide, judgedAt, numbered, free}
 use Rattle.placing.specs.deciding.Tests.{eq-decides, both-decide, not-decides, meetingTest, meeting-decides}
-use Rattle.placing.specs.deciding.Answer.{answerOf}
+use Rattle.placing.specs.deciding.Answer.{answerOf, isSome, cornersOf, chosenAt}
 use Rattle.placing.specs.theorems.FactorTwo.{meeting-larger}
-use Rattle.placing.specs.theorems.CheckedAnswer.{checkedTest, checked-right, passed, both-passed}
+use Rattle.placing.specs.theorems.Given.{chosen-is}
+use Rattle.placing.specs.theorems.PrunedSearch.{prunedFirst}
+use Rattle.placing.specs.theorems.CheckedAnswer.{equalTest, equal-decides, pruned-same, checkedTest, checked-right, passed, both-passed}
 use Rattle.plan.specs.declared.refusal.Outcome.the-variants.{Done, Refused}
 use Rattle.plan.specs.declared.refusal.Outcome.{Outcome}
 use Rattle.plan.specs.declared.refusal.Refusal.{Refusal}
-use Rattle.plan.specs.declared.refusal.Refusal.the-variants.{NoSites}
+use Rattle.plan.specs.declared.refusal.Refusal.the-variants.{BadNumber, NoSites, NoGoodChoice}
+use Rattle.plan.specs.declared.plan.AskedSide.{AskedSide}
+use Rattle.plan.specs.declared.plan.AskedSide.the-variants.{SideIs, NoSide}
 use Rattle.plan.specs.declared.plan.Plan.{Plan}
 use Rattle.plan.specs.declared.plan.Planned.{Planned}
-use Rattle.plan.specs.rules.Refusal.{numberOf, Result, accepted, refused}
+use Rattle.plan.specs.rules.Refusal.{numberOf, Test, _gives_, Result, accepted, refused, afterTests}
 use Rattle.plan.specs.rules.Text.{isName, allNameBytes, sameBytes}
 use Rattle.plan.specs.rules.List.{Site, placeAt, placesOf, Listed, entered, wantedAt}
-use Rattle.plan.specs.calls.Plan.{unplacedPlan, placedPlan}
-use Rattle.plan.specs.calls.Answers.{started, handed, enteredIn, placedIn}
+use Rattle.plan.specs.rules.Calls.{outside, noSites, noGood}
+use Rattle.plan.specs.deciding.Output.{existsAt}
+use Rattle.plan.specs.calls.Plan.{unplacedPlan, placedWith}
+use Rattle.plan.specs.calls.Answers.{started, handed, enteredIn, sideAnswer, foundIn, chosenIn}
 use Rattle.plan.specs.theorems.Sites.{listed-none}
 use Rattle.plan.specs.theorems.Entering.{entered-listed}
-use Rattle.plan.specs.theorems.Plan.{answerIn, placed-answer, sites-unplaced}
+use Rattle.plan.specs.theorems.Sheet.{answer-listed}
+use Rattle.plan.specs.theorems.Plan.{answerIn, placed-answer, sites-unplaced, holding-unplaced}
+use Rattle.plan.specs.theorems.Choosing.{chosen-listed, found-done, placed-by}
 use Rattle.plan.specs.theorems.HandedBack.{entered-more}
 
 -- A name and two numbers to enter.
@@ -42,21 +51,30 @@ pub record Entry : Type 0 where
   pub x : ℕ
   pub y : ℕ
 
--- What entries, and placing after them, lead to: this answer, or step number i, from 0, is refused with this number. The step
--- after the last entry is placing.
+-- What entries, and placing after them, lead to: this side with these corners, or step number i, from 0, is refused with this number.
+-- The step after the last entry is placing.
 pub data End : Type 0 where
   answered : Answer → End
   refusedAt : (i number : ℕ) → End
 
--- Entries, with what they lead to, and where document 01 tells it the side up to which the labels of the answer do not meet.
+-- Entries, the side at which they are placed, where that is given and not found, and what they lead to; and where document 01 tells it the
+-- side up to which the labels of the answer do not meet.
 pub record Row : Type 0 where
   pub entries : List Entry
+  pub at-side : Option Side
   pub end : End
   pub apart-to : Option ℕ
 
--- A row of which it does not.
+-- A row of which it does not, placed at the side found,
 abbrev pub row : List Entry → End → Row
-row entries end = record { entries = entries; end = end; apart-to = none }
+row entries end = record { entries = entries; at-side = none; end = end; apart-to = none }
+
+-- and one at a given side.
+abbrev pub given : List Entry → Side → End → Row
+given entries side end = record { entries = entries; at-side = some side; end = end; apart-to = none }
+
+abbrev pub number : ℕ → Side
+number h = Number (record { 0 = h })
 
 -- ---- the table
 
@@ -64,16 +82,24 @@ row entries end = record { entries = entries; end = end; apart-to = none }
 abbrev pub at : (letter x y : ℕ) → Entry
 at letter x y = record { name = letter ∷ []; x = x; y = y }
 
--- Document 01's cases, in its order, and placing a plan of no sites.
+-- The list A, B, C, and five on the diagonal.
+abbrev pub column : List Entry
+column = at 65 10 10 ∷ at 66 10 14 ∷ at 67 10 20 ∷ []
+
+abbrev pub diagonal : List Entry
+diagonal = at 65 0 0 ∷ at 66 1 1 ∷ at 67 2 2 ∷ at 68 3 3 ∷ at 69 4 4 ∷ []
+
+-- Document 01's cases, in its order, and placing a plan of no sites; then those at given sides.
 abbrev pub rows : List Row
 rows =
     row (at 65 5 5 ∷ []) (answered (free (1 ∷ [])))
     ∷ row (at 65 0 0 ∷ at 66 1 0 ∷ []) (answered (free (2 ∷ 1 ∷ [])))
     ∷ row (at 65 0 0 ∷ at 66 1 0 ∷ at 67 0 1 ∷ at 68 1 1 ∷ []) (answered (free (3 ∷ 4 ∷ 2 ∷ 1 ∷ [])))
     ∷ row (at 65 0 0 ∷ at 66 1 1 ∷ at 67 2 2 ∷ at 68 3 3 ∷ []) (answered (free (3 ∷ 2 ∷ 4 ∷ 1 ∷ [])))
-    ∷ row (at 65 0 0 ∷ at 66 1 1 ∷ at 67 2 2 ∷ at 68 3 3 ∷ at 69 4 4 ∷ []) (answered (numbered 4 (2 ∷ 4 ∷ 2 ∷ 4 ∷ 1 ∷ [])))
+    ∷ row diagonal (answered (numbered 4 (2 ∷ 4 ∷ 2 ∷ 4 ∷ 1 ∷ [])))
     ∷ record {
-      entries = at 65 10 10 ∷ at 66 10 14 ∷ at 67 10 20 ∷ [];
+      entries = column;
+      at-side = none;
       end = answered (numbered 6 (3 ∷ 1 ∷ 1 ∷ []));
       apart-to = some 12;
     }
@@ -86,10 +112,22 @@ rows =
     ∷ row (at 65 5 5 ∷ at 66 5 5 ∷ []) (refusedAt 1 5)
     ∷ row (at 65 5 5 ∷ at 65 5 5 ∷ []) (refusedAt 1 4)
     ∷ row [] (refusedAt 0 8)
+    ∷ given column (number 4) (answered (numbered 4 (1 ∷ 1 ∷ 1 ∷ [])))
+    ∷ given column (number 5) (answered (numbered 5 (3 ∷ 1 ∷ 1 ∷ [])))
+    ∷ given column (number 6) (answered (numbered 6 (3 ∷ 1 ∷ 1 ∷ [])))
+    ∷ given column (number 7) (refusedAt 3 12)
+    ∷ given column Free (refusedAt 3 12)
+    ∷ given diagonal (number 2) (answered (numbered 2 (2 ∷ 2 ∷ 2 ∷ 2 ∷ 1 ∷ [])))
+    ∷ given diagonal (number 3) (answered (numbered 3 (2 ∷ 4 ∷ 2 ∷ 4 ∷ 1 ∷ [])))
+    ∷ given (at 65 5 5 ∷ []) (number 20000) (answered (numbered 20000 (1 ∷ [])))
+    ∷ given (at 65 5 5 ∷ []) (number 20001) (refusedAt 1 3)
+    ∷ given (at 65 5 5 ∷ []) (number 0) (refusedAt 1 3)
+    ∷ given [] (number 0) (refusedAt 0 3)
+    ∷ given [] Free (refusedAt 0 8)
     ∷ []
 
 -- So many rows: one that is left out is missed.
-pub rows-count : length rows ≡ 13
+pub rows-count : length rows ≡ 25
 rows-count = refl
 
 -- ---- what entries lead to
@@ -103,68 +141,127 @@ afterStep next i (Refused why) plan = refusedAt i (numberOf why)
 abbrev pub onward : (Plan → End) → ℕ → Planned → End
 onward next i planned = afterStep next i (planned .outcome) (planned .plan)
 
--- Entries from number i on, into this plan, then placing with this work table.
-abbrev pub leadsFrom : List ℕ → ℕ → Plan → List Entry → End
-leadsFrom table i plan [] = onward (λ end. answered (answerIn end)) i (placedIn plan table)
-leadsFrom table i plan (entry ∷ entries) =
-    onward (λ more. leadsFrom table (suc i) more entries) i (enteredIn plan (entry .name) (entry .x) (entry .y))
+-- Choosing at a side, and at the one that was found.
+abbrev pub chosenEnd : List ℕ → ℕ → Plan → Side → End
+chosenEnd table i plan side = onward (λ end. answered (answerIn end)) i (chosenIn plan side table)
+
+abbrev pub foundEnd : List ℕ → ℕ → Plan → AskedSide → End
+foundEnd table i plan (SideIs side) = chosenEnd table i plan side
+foundEnd table i plan (NoSide why) = refusedAt i (numberOf why)
+
+-- Placing at a side, where one is given, else at the one that is found. Each call is lent a table of this length.
+abbrev pub placedEnd : List ℕ → ℕ → Plan → Option Side → End
+placedEnd table i plan none = foundEnd table i plan (foundIn plan table)
+placedEnd table i plan (some side) = chosenEnd table i plan side
+
+-- Entries from number i on, into this plan, then placing.
+abbrev pub leadsFrom : List ℕ → Option Side → ℕ → Plan → List Entry → End
+leadsFrom table side i plan [] = placedEnd table i plan side
+leadsFrom table side i plan (entry ∷ entries) =
+    onward (λ more. leadsFrom table side (suc i) more entries) i (enteredIn plan (entry .name) (entry .x) (entry .y))
 
 -- Into a started plan.
-abbrev pub leadsTo : List ℕ → List Entry → End
-leadsTo table entries = leadsFrom table 0 started entries
+abbrev pub leadsTo : List ℕ → Option Side → List Entry → End
+leadsTo table side entries = leadsFrom table side 0 started entries
 
 -- ---- the same by sites, as it is computed
 
--- Entered one after another: the sites of all, or the first step that is refused.
+-- Entered one after another: the sites of all, to be placed at the side found, or the first step that is refused, or the end at a given
+-- side.
 data Run : Type 0 where
   through : List Site → Run
   stopped : (i : ℕ) → Refusal → Run
+  ended : End → Run
+
+-- The end at a given side, by plain search and by the pruned one.
+abbrev resultEnd : ℕ → Result Answer → End
+resultEnd i (accepted answer) = answered answer
+resultEnd i (refused why) = refusedAt i (numberOf why)
+
+abbrev endBy : Option (List ℕ) → ℕ → Side → List Site → End
+endBy first i side sites =
+    resultEnd i (afterTests (outside side ∷ noSites (length sites) ∷ noGood (isSome first) ∷ []) (record { side = side; corners = cornersOf first }))
+
+abbrev endAt : ℕ → Side → List Site → End
+endAt i side sites = endBy (prunedFirst (judgedAt side) (placesOf sites)) i side sites
 
 -- What follows an entry: nothing where it is refused.
 abbrev runOn : (List Site → Run) → ℕ → Result (List Site) → Run
 runOn next i (accepted sites) = next sites
 runOn next i (refused why) = stopped i why
 
--- Entries from number i on, after these sites; placing no sites is refused.
-abbrev runFrom : ℕ → List Site → List Entry → Run
-runFrom i [] [] = stopped i NoSites
-runFrom i (site ∷ sites) [] = through (site ∷ sites)
-runFrom i sites (entry ∷ entries) = runOn (λ more. runFrom (suc i) more entries) i (entered sites (wantedAt (entry .name) (entry .x) (entry .y)))
+-- Placing these sites; placing no sites is refused.
+abbrev runPlaced : Option Side → ℕ → List Site → Run
+runPlaced (some side) i sites = ended (endAt i side sites)
+runPlaced none i [] = stopped i NoSites
+runPlaced none i (site ∷ sites) = through (site ∷ sites)
+
+-- Entries from number i on, after these sites.
+abbrev runFrom : Option Side → ℕ → List Site → List Entry → Run
+runFrom side i sites [] = runPlaced side i sites
+runFrom side i sites (entry ∷ entries) =
+    runOn (λ more. runFrom side (suc i) more entries) i (entered sites (wantedAt (entry .name) (entry .x) (entry .y)))
 
 -- All sites have the answer for their places; a refusal is its number.
 abbrev endOf : Run → End
 endOf (through sites) = answered (answerOf (placesOf sites))
 endOf (stopped i why) = refusedAt i (numberOf why)
+endOf (ended end) = end
 
 -- With a table for so many sites.
 module _ (table : List ℕ) (most : ℕ) (enough : most * most ≤ length table) where
-  -- Placing sites that are listed.
-  placing-run : (i : ℕ) (sites : List Site) → Listed sites → length sites ≤ most
-      → leadsFrom table i (unplacedPlan sites) [] ≡ endOf (runFrom i sites [])
+  -- Choosing at a side for sites that are listed.
+  choosing-run : (side : Side) (i : ℕ) (sites : List Site) → Listed sites → length sites ≤ most
+      → chosenEnd table i (unplacedPlan sites) side ≡ endAt i side sites
+  unfolding chosenAt
+  choosing-run side i sites listed few =
+      ap (onward (λ end. answered (answerIn end)) i) (chosen-listed side sites table (le-trans (mul-le-mul few few) enough))
+      ∙ by-tests (isSide side) refl (eqb (length sites) 0) (existsAt side sites) refl
+      ∙ ap (λ (first : Option (List ℕ)). endBy first i side sites) (sym (pruned-same (judgedAt side) (placesOf sites)))
+    where
+      tests : (a b d : Bool) → List Test
+      tests a b d = not a gives BadNumber ∷ b gives NoSites ∷ not d gives NoGoodChoice ∷ []
+
+      by-tests : (a : Bool) → isSide side ≡ a → (b d : Bool) → existsAt side sites ≡ d
+          → onward (λ end. answered (answerIn end)) i
+          (handed (placedWith sites) (unplacedPlan sites) (afterTests (tests a b d) (chosenAt side (placesOf sites))))
+          ≡ resultEnd i (afterTests (tests a b d) (chosenAt side (placesOf sites)))
+      by-tests false given b d there = refl
+      by-tests true given true d there = refl
+      by-tests true given false false there = refl
+      by-tests true given false true there =
+          ap answered (placed-answer sites (chosenAt side (placesOf sites)) (chosen-is (placesOf sites) side given there))
+
+  -- Finding the side first.
+  finding-run : (i : ℕ) (sites : List Site) → Listed sites → length sites ≤ most
+      → foundEnd table i (unplacedPlan sites) (foundIn (unplacedPlan sites) table) ≡ endOf (runPlaced none i sites)
   unfolding unplacedPlan
-  placing-run i [] listed few = refl
-  placing-run i (site ∷ sites) listed few =
-      rw (
-        ne-eqb (length (site ∷ sites)) 0 (omega arith),
-        le-ltb (length table) (length (site ∷ sites) * length (site ∷ sites)) (le-trans (mul-le-mul few few) enough),
-      )
-      (ap answered
-      (ap (λ (held : List Site). answerIn (placedPlan held)) (sites-unplaced (site ∷ sites))
-      ∙ placed-answer (site ∷ sites) (listed .places-distinct)))
+  finding-run i [] listed few = refl
+  finding-run i (site ∷ sites) listed few =
+      let plan = unplacedPlan (site ∷ sites) in
+      let room = le-trans (mul-le-mul few few) enough in
+      let answer = answerOf (placesOf (site ∷ sites)) in
+      let found = found-done plan table (λ none. omega arith) room in
+      let side = ap (λ (l : List Site). answerOf (placesOf l) .side) (sites-unplaced (site ∷ sites)) in
+      ap (λ (r : Result Side). foundEnd table i plan (sideAnswer r)) (found ∙ ap accepted side)
+      ∙ ap (onward (λ end. answered (answerIn end)) i)
+      (placed-by answer table (holding-unplaced listed) (sites-unplaced (site ∷ sites)) (omega arith) room (answer-listed (site ∷ sites) listed))
+      ∙ ap answered (placed-answer (site ∷ sites) answer (answer-listed (site ∷ sites) listed))
 
   -- The calls on plans lead where the sites by themselves do.
-  leads-run : (i : ℕ) (sites : List Site) → Listed sites → (entries : List Entry) → length sites + length entries ≤ most
-      → leadsFrom table i (unplacedPlan sites) entries ≡ endOf (runFrom i sites entries)
-  leads-run i sites listed [] few = placing-run i sites listed (omega arith)
-  leads-run i sites listed (entry ∷ entries) few =
+  leads-run : (side : Option Side) (i : ℕ) (sites : List Site) → Listed sites → (entries : List Entry) → length sites + length entries ≤ most
+      → leadsFrom table side i (unplacedPlan sites) entries ≡ endOf (runFrom side i sites entries)
+  leads-run none i sites listed [] few = finding-run i sites listed (omega arith)
+  leads-run (some side) i sites listed [] few = choosing-run side i sites listed (omega arith)
+  leads-run side i sites listed (entry ∷ entries) few =
       rw (sites-unplaced sites)
-      (step (λ more each fewer. leads-run (suc i) more each entries fewer) (entered sites (wantedAt (entry .name) (entry .x) (entry .y))) refl)
+      (step (λ more each fewer. leads-run side (suc i) more each entries fewer) (entered sites (wantedAt (entry .name) (entry .x) (entry .y))) refl)
     where
       step : ((more : List Site) → Listed more → length more + length entries ≤ most
-          → leadsFrom table (suc i) (unplacedPlan more) entries ≡ endOf (runFrom (suc i) more entries))
+          → leadsFrom table side (suc i) (unplacedPlan more) entries ≡ endOf (runFrom side (suc i) more entries))
           → (after : Result (List Site)) → entered sites (wantedAt (entry .name) (entry .x) (entry .y)) ≡ after
-          → onward (λ more. leadsFrom table (suc i) more entries) i (handed unplacedPlan (unplacedPlan sites) after)
-          ≡ endOf (runOn (λ more. runFrom (suc i) more entries) i after)
+          → onward (λ more. leadsFrom table side (suc i) more entries) i (handed unplacedPlan (unplacedPlan sites) after)
+          ≡ endOf (runOn (λ more. runFrom side (suc i) more entries) i after)
       step further (accepted more) e =
           further more (entered-listed (entry .name) (entry .x) (entry .y) listed e)
           (omega (arith, entered-more sites (entry .name) (entry .x) (entry .y) e))
@@ -172,12 +269,43 @@ module _ (table : List ℕ) (most : ℕ) (enough : most * most ≤ length table)
 
 -- ---- the test of a row
 
--- A run ends so: the answer is found by the search, the refusal has this place and number.
+-- Two sides, and two ends, are the same.
+abbrev sideTest : Side → Side → Bool
+sideTest (Number h) (Number k) = eqb (h .0) (k .0)
+sideTest (Number h) Free = false
+sideTest Free (Number k) = false
+sideTest Free Free = true
+
+side-right : (side other : Side) → T (sideTest side other) → side ≡ other
+side-right (Number h) (Number k) test = let same = passed (eq-decides (h .0) (k .0)) test in λ i. Number (record { 0 = same i })
+side-right (Number h) Free test = absurd test
+side-right Free (Number k) test = absurd test
+side-right Free Free test = refl
+
+abbrev sameEnd : End → End → Bool
+sameEnd (answered one) (answered other) = sideTest (one .side) (other .side) && equalTest (one .corners) (other .corners)
+sameEnd (answered one) (refusedAt i number) = false
+sameEnd (refusedAt j number) (answered other) = false
+sameEnd (refusedAt j number) (refusedAt i other) = eqb j i && eqb number other
+
+same-end : (one other : End) → T (sameEnd one other) → one ≡ other
+same-end (answered one) (answered other) test =
+    let both = both-passed (sideTest (one .side) (other .side)) (equalTest (one .corners) (other .corners)) test in
+    let side = side-right (one .side) (other .side) (both .0) in
+    let corners = passed (equal-decides (one .corners) (other .corners)) (both .1) in
+    λ k. answered (record { side = side k; corners = corners k })
+same-end (answered one) (refusedAt i number) test = absurd test
+same-end (refusedAt j number) (answered other) test = absurd test
+same-end (refusedAt j number) (refusedAt i other) test =
+    let same = passed (both-decide (eq-decides j i) (eq-decides number other)) test in
+    λ k. refusedAt (same .0 k) (same .1 k)
+
+-- A run ends so: the answer is found by the search, another end is this one.
 abbrev endTest : Run → End → Bool
 endTest (through sites) (answered answer) = checkedTest (placesOf sites) answer
 endTest (through sites) (refusedAt i number) = false
-endTest (stopped j why) (answered answer) = false
-endTest (stopped j why) (refusedAt i number) = eqb j i && eqb (numberOf why) number
+endTest (stopped j why) end = sameEnd (refusedAt j (numberOf why)) end
+endTest (ended one) end = sameEnd one end
 
 -- The places of entries.
 abbrev pub spots : List Entry → List Place
@@ -190,7 +318,7 @@ apartTest places (answered answer) (some side) = not (meetingTest side 1 places 
 apartTest places (refusedAt i number) (some side) = false
 
 abbrev rowTest : Row → Bool
-rowTest row = endTest (runFrom 0 [] (row .entries)) (row .end) && apartTest (spots (row .entries)) (row .end) (row .apart-to)
+rowTest row = endTest (runFrom (row .at-side) 0 [] (row .entries)) (row .end) && apartTest (spots (row .entries)) (row .end) (row .apart-to)
 
 abbrev rowsTest : List Row → Bool
 rowsTest [] = true
@@ -205,10 +333,10 @@ row-passed (first ∷ rows) test row member =
 
 -- So every row of the table does: antt computes it.
 known-passed : (row : Row) → List·Memᴰ row rows
-    → T (endTest (runFrom 0 [] (row .entries)) (row .end)) × T (apartTest (spots (row .entries)) (row .end) (row .apart-to))
+    → T (endTest (runFrom (row .at-side) 0 [] (row .entries)) (row .end)) × T (apartTest (spots (row .entries)) (row .end) (row .apart-to))
 unfolding isName allNameBytes sameBytes
 known-passed row member =
-    both-passed (endTest (runFrom 0 [] (row .entries)) (row .end)) (apartTest (spots (row .entries)) (row .end) (row .apart-to))
+    both-passed (endTest (runFrom (row .at-side) 0 [] (row .entries)) (row .end)) (apartTest (spots (row .entries)) (row .end) (row .apart-to))
     (row-passed rows tt row member)
 
 -- An end that passes its test is right.
@@ -216,17 +344,15 @@ end-right : (run : Run) (end : End) → T (endTest run end) → endOf run ≡ en
 end-right (through sites) (answered answer) test =
     ap answered (checked-right (placesOf sites) answer test)
 end-right (through sites) (refusedAt i number) test = absurd test
-end-right (stopped j why) (answered answer) test = absurd test
-end-right (stopped j why) (refusedAt i number) test =
-    let same = passed (both-decide (eq-decides j i) (eq-decides (numberOf why) number)) test in
-    λ k. refusedAt (same .0 k) (same .1 k)
+end-right (stopped j why) end test = same-end (refusedAt j (numberOf why)) end test
+end-right (ended one) end test = same-end one end test
 
 -- The entries of every row lead to its end, with a work table of n × n bytes for n entries.
 pub known : (row : Row) → List·Memᴰ row rows → (table : List ℕ) → length (row .entries) * length (row .entries) ≤ length table
-    → leadsTo table (row .entries) ≡ row .end
+    → leadsTo table (row .at-side) (row .entries) ≡ row .end
 known row member table enough =
-    leads-run table (length (row .entries)) enough 0 [] listed-none (row .entries) (omega arith)
-    ∙ end-right (runFrom 0 [] (row .entries)) (row .end) (known-passed row member .0)
+    leads-run table (length (row .entries)) enough (row .at-side) 0 [] listed-none (row .entries) (omega arith)
+    ∙ end-right (runFrom (row .at-side) 0 [] (row .entries)) (row .end) (known-passed row member .0)
 
 -- Labels that do not meet at a side meet at no smaller one.
 apart-right : (places : List Place) (end : End) (told : Option ℕ) {answer : Answer} {side : ℕ} → T (apartTest places end told)

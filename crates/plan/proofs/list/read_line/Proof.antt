@@ -1,65 +1,114 @@
--- `plan::list::read_line` meets its contract: a line that is found is entered. Assumes nothing.
-use native.Mathlib.Omega.{arith}
-use mathlib.Core.Path.{subst}
+-- `plan::list::read_line` meets its contract: the field ends that are found cut the line into its fields. Assumes nothing.
+use mathlib.Core.Path.{sym}
+use lib.Seq.{length-take-le}
 use borrow.Author.Needs.{needs}
-use Rattle.plan.specs.code.Line.{LineAt, LineEnds, no-line, a-line}
+use Rattle.plan.specs.code.LineLaws.{none-read, line-of-one, line-of-two, line-of-three, line-of-four}
 use Rattle.plan.proofs.list.read_line.Statement.{statement}
 use Rattle.plan.proofs.list.read_line.Tie as tie
 
--- The entry, from behind the search for the line's end.
-abbrev start-of : tie.After-line-end → tie.Start
-start-of c = c .before .before
+field-end-requires : tie.Need-field-end-requires
+field-end-requires c κs = search needs
 
--- Past the test for a line, one is found.
-found-at : (c : tie.After-known-told)
-    → LineAt (start-of (c .before .before .before) .args .text .now) (start-of (c .before .before .before) .args .at) (c .before .end .given .0 .0)
-found-at c =
-    let call = c .before .before .before in
-    subst (LineEnds _ (start-of call .args .at)) (c .before .end .given .1) (call .line-end .ensures)
-
-line-end-requires : tie.Need-line-end-requires
-line-end-requires c κs = search needs
-
-enum-known-end : tie.Need-enum-known-end
-enum-known-end c = search needs
-
-enum-told : tie.Need-enum-told
-enum-told c = search needs
+no-fields-requires : tie.Need-no-fields-requires
+no-fields-requires c κs = search needs
 
 returns : tie.Need-returns
 returns c =
-    let call = c .before .before in
-    no-line (subst (LineEnds _ (start-of call .args .at)) (c .enum-told .given .1) (call .line-end .ensures))
+    let at-first = c .before .before in
+    none-read (line-of-one (at-first .field-end .ensures) (c .before .if1 .taken)) (c .no-fields .ensures)
 
-sub-enter-line : tie.Need-sub-enter-line
-sub-enter-line c = omega (arith, found-at c)
+add-from-x : tie.Need-add-from-x
+add-from-x c = search needs
 
-part-enter-line-start : tie.Need-part-enter-line-start
-part-enter-line-start c = omega (arith, found-at c)
+field-end-requires-2 : tie.Need-field-end-requires-2
+field-end-requires-2 c κs = search needs
 
-part-enter-line-end : tie.Need-part-enter-line-end
-part-enter-line-end c = omega (arith, found-at c)
-
-enter-line-requires : tie.Need-enter-line-requires
-enter-line-requires c κs = search needs
-
-add-t12 : tie.Need-add-t12
-add-t12 c = omega (arith, found-at (c .before .before .before))
+no-fields-requires-2 : tie.Need-no-fields-requires-2
+no-fields-requires-2 c κs = search needs
 
 returns-2 : tie.Need-returns-2
-returns-2 c = a-line (c .before .enter-line .result) (found-at (c .before .before .before)) (c .before .enter-line .ensures .0)
+returns-2 c =
+    let at-second = c .before .before in
+    let at-first = at-second .before .before in
+    none-read
+    (line-of-two (at-first .field-end .ensures) (at-second .before .if1 .left) (at-second .field-end2 .ensures) (c .before .if2 .taken))
+    (c .no-fields2 .ensures)
+
+add-from-y : tie.Need-add-from-y
+add-from-y c = search needs
+
+field-end-requires-3 : tie.Need-field-end-requires-3
+field-end-requires-3 c κs = search needs
+
+no-fields-requires-3 : tie.Need-no-fields-requires-3
+no-fields-requires-3 c κs = search needs
+
+returns-3 : tie.Need-returns-3
+returns-3 c =
+    let at-third = c .before .before in
+    let at-second = at-third .before .before in
+    let at-first = at-second .before .before in
+    none-read
+    (line-of-four (at-first .field-end .ensures) (at-second .before .if1 .left) (at-second .field-end2 .ensures) (at-third .before .if2 .left)
+    (at-third .field-end3 .ensures) (c .before .if3 .taken))
+    (c .no-fields3 .ensures)
+
+slice-aggregate-read-fields : tie.Need-slice-aggregate-read-fields
+slice-aggregate-read-fields c =
+    sym (length-take-le _ _ (c .before .before .before .before .before .before .field-end .ensures .no-tab .within))
+
+sub-read-fields : tie.Need-sub-read-fields
+sub-read-fields c = search needs
+
+part-read-fields-start : tie.Need-part-read-fields-start
+part-read-fields-start c = search needs
+
+part-read-fields-end : tie.Need-part-read-fields-end
+part-read-fields-end c = search needs
+
+sub-read-fields-2 : tie.Need-sub-read-fields-2
+sub-read-fields-2 c = search needs
+
+part-read-fields-start-2 : tie.Need-part-read-fields-start-2
+part-read-fields-start-2 c = search needs
+
+part-read-fields-end-2 : tie.Need-part-read-fields-end-2
+part-read-fields-end-2 c = search needs
+
+read-fields-requires : tie.Need-read-fields-requires
+read-fields-requires c κs = search needs
+
+returns-4 : tie.Need-returns-4
+returns-4 c =
+    let at-third = c .before .before .before .before .before in
+    let at-second = at-third .before .before in
+    let at-first = at-second .before .before in
+    rw
+    (line-of-three (at-first .field-end .ensures) (at-second .before .if1 .left) (at-second .field-end2 .ensures) (at-third .before .if2 .left)
+    (at-third .field-end3 .ensures) (c .before .before .before .before .if3 .left))
+    (c .read-fields .ensures)
 
 pub read-line-spec : {M : Type 1} → statement M
 read-line-spec =
     tie.close
     (tie.spec
-    line-end-requires
-    enum-known-end
-    enum-told
+    field-end-requires
+    no-fields-requires
     returns
-    sub-enter-line
-    part-enter-line-start
-    part-enter-line-end
-    enter-line-requires
-    add-t12
-    returns-2)
+    add-from-x
+    field-end-requires-2
+    no-fields-requires-2
+    returns-2
+    add-from-y
+    field-end-requires-3
+    no-fields-requires-3
+    returns-3
+    slice-aggregate-read-fields
+    sub-read-fields
+    part-read-fields-start
+    part-read-fields-end
+    sub-read-fields-2
+    part-read-fields-start-2
+    part-read-fields-end-2
+    read-fields-requires
+    returns-4)

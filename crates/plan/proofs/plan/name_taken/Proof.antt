@@ -8,7 +8,7 @@ use mathlib.Core.Bool.{false}
 use borrow.Author.Needs.{needs}
 use Rattle.plan.specs.rules.List.{among}
 use Rattle.plan.specs.calls.Plan.{nameHeld}
-use Rattle.plan.specs.code.Taken.{isNamed, among-more, among-one, held-short}
+use Rattle.plan.specs.code.Taken.{isNamed, among-more, among-one, held-padded}
 use Rattle.plan.proofs.plan.name_taken.Statement.{statement}
 use Rattle.plan.proofs.plan.name_taken.Tie as tie
 
@@ -30,7 +30,7 @@ array-copy-out-other c = search needs
 same-name-requires : tie.Need-same-name-requires Inv-loop μ-loop
 same-name-requires c κs =
     let start = c .before .before .before in
-    (held-short (start .pre .1) (c .before .before .loop .i) _ (omega arith) (omega arith), start .pre .2)
+    (held-padded (start .pre .1) (c .before .before .loop .i) _ (omega arith) (omega arith), start .pre .2)
 
 returns : tie.Need-returns Inv-loop μ-loop
 returns c =

@@ -9,27 +9,36 @@ use lib.Seq.{take-all, take-at}
 use Rattle.plan.specs.rules.List.{longestText}
 use Rattle.plan.specs.rules.Sheet.{sheetWith}
 use Rattle.plan.specs.rules.Calls.{filledWith}
-use Rattle.plan.specs.deciding.Output.{outputOf}
-use Rattle.plan.specs.Demands.{Answered, refusal-line, list-sheet}
-use Rattle.plan.specs.theorems.Longer.{output-first}
-use Rattle.plan.specs.theorems.Output.{output-answered, output-within}
+use Rattle.plan.specs.Demands.{refusal-line, list-sheet, refusal-at, sheet-at}
+use Rattle.plan.specs.theorems.Longer.{output-first, output-first-at}
+use Rattle.plan.specs.theorems.Output.{output-answered, output-answered-at, output-within}
+use Rattle.place.specs.declared.asked.At.{At}
+use Rattle.place.specs.declared.asked.At.the-variants.{Found, Given}
 use Rattle.place.specs.declared.answer.Answer.{Answer}
 use Rattle.place.specs.declared.answer.Answer.the-variants.{Output, Unread}
-use Rattle.place.specs.Reply.{OutputFor, Replied, IsRefused, Writable}
+use Rattle.place.specs.Reply.{outputBy, AnsweredBy, OutputFor, Replied, IsRefused, Writable}
 
 -- What `output` leaves for the bytes read is the output for every input that starts with them.
-pub output-for : {n : ℕ} {after : List ℕ} (read buffer : List ℕ) → n ≡ length (outputOf read) → after ≡ filledWith (outputOf read) buffer
-    → OutputFor read n after
-output-for {n} {after} read buffer size is =
+pub output-for : {n : ℕ} {after : List ℕ} (at : At) (read buffer : List ℕ) → n ≡ length (outputBy at read)
+    → after ≡ filledWith (outputBy at read) buffer → OutputFor at read n after
+output-for {n} {after} at read buffer size is =
     record {
-      within = output-within read buffer size is;
+      within = output-within (outputBy at read) buffer size is;
       output = whole;
-      answered = λ input first. subst (Answered input) (sym (whole input first)) (output-answered input);
+      answered = λ input first. subst (AnsweredBy at input) (sym (whole input first)) (by-answered at input);
     }
   where
-    whole : (input : List ℕ) → take longestText input ≡ read → take n after ≡ outputOf input
+    by-first : (a : At) (input : List ℕ) → take longestText input ≡ read → outputBy a read ≡ outputBy a input
+    by-first Found input first = output-first input read first
+    by-first (Given side) input first = output-first-at side input read first
+
+    by-answered : (a : At) (input : List ℕ) → AnsweredBy a input (outputBy a input)
+    by-answered Found input = output-answered input
+    by-answered (Given side) input = output-answered-at side input
+
+    whole : (input : List ℕ) → take longestText input ≡ read → take n after ≡ outputBy at input
     whole input first =
-        ap (take n) is ∙ take-at (outputOf read) (drop (length (outputOf read)) buffer) n (sym size) ∙ output-first input read first
+        ap (take n) is ∙ take-at (outputBy at read) (drop (length (outputBy at read)) buffer) n (sym size) ∙ by-first at input first
 
 -- The first byte of a part from the front is the first byte of the whole.
 first-byte : (n b : ℕ) (buffer rest : List ℕ) → take n buffer ≡ b ∷ rest → getD buffer 0 0 ≡ b
@@ -38,23 +47,26 @@ first-byte (suc n) b [] rest is = absurd (omega (arith, ap length is))
 first-byte (suc n) b (c ∷ buffer) rest is = cc
 
 -- A sheet starts with the letter s, of the word side; so what starts with another is the line of a refusal.
-letter-refuses : {text output : List ℕ} (n : ℕ) (buffer : List ℕ) → output ≡ take n buffer → Answered text output → getD buffer 0 0 ≡ 114
-    → IsRefused text
+letter-refuses : {output : List ℕ} (at : At) (text : List ℕ) (n : ℕ) (buffer : List ℕ) → output ≡ take n buffer → AnsweredBy at text output
+    → getD buffer 0 0 ≡ 114 → IsRefused at text
 unfolding sheetWith
-letter-refuses n buffer is (refusal-line {number} refused line) letter = (number, refused)
-letter-refuses n buffer is (list-sheet for) letter =
+letter-refuses Found text n buffer is (refusal-line {number} refused line) letter = (number, refused)
+letter-refuses Found text n buffer is (list-sheet for) letter =
     absurd (omega (arith, letter, first-byte n 115 buffer _ (sym is ∙ for .right .prints)))
+letter-refuses (Given side) text n buffer is (refusal-at {number} refused line) letter = (number, refused)
+letter-refuses (Given side) text n buffer is (sheet-at for) letter =
+    absurd (omega (arith, letter, first-byte n 115 buffer _ (sym is ∙ for .placed .prints)))
 
 -- What was answered for the bytes read can be written.
-pub replied-writable : (start room : List ℕ) (answer : Answer) (buffer : List ℕ) → Replied start room answer buffer
-    → Writable answer room buffer
-replied-writable start room (Output reading n) buffer replied =
+pub replied-writable : (at : At) (start room : List ℕ) (answer : Answer) (buffer : List ℕ) → Replied at start room answer buffer
+    → Writable at answer room buffer
+replied-writable at start room (Output reading n) buffer replied =
     let within = replied .input-read .finished .within in
     let short : length (take (reading .at) room) ≤ longestText = omega (arith, length-take (reading .at) room, replied .input-read .size) in
     let read = take-all longestText (take (reading .at) room) short in
     record {
       read-within = within;
       output-within = replied .output-for .within;
-      is-refused = letter-refuses n buffer refl (replied .output-for .answered (take (reading .at) room) read);
+      is-refused = letter-refuses at (take (reading .at) room) n buffer refl (replied .output-for .answered (take (reading .at) room) read);
     }
-replied-writable start room (Unread reading) buffer replied = tt
+replied-writable at start room (Unread reading) buffer replied = tt

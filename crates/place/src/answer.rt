@@ -1,17 +1,20 @@
 // Reading the list from standard input, and writing its answer. Nothing but `answer_input` is seen outside, so that no answer and no
 // reading can be made up elsewhere.
+use crate::asked::At;
 use crate::explain::tell_refused;
 use crate::tell::tell;
 use libc::STDIN_FILENO;
 use libc::STDOUT_FILENO;
 use plan::limits::TextLimits;
 use plan::output::output;
+use plan::output::output_at;
 ghost use mathlib.Core.Path.{_≡_};
 ghost use Prim.Native.Nat.{_≤_, _<_};
 ghost use lib.ListN.{length};
 ghost use Rattle.place.specs.Input.{Finished, ReadBehind, InputReads, bytesOf, roomLeft, stepOf};
 ghost use Rattle.plan.specs.rules.List.{longestText};
-ghost use Rattle.place.specs.Reply.{Replied, Writable};
+ghost use Rattle.plan.specs.rules.Calls.{filledWith};
+ghost use Rattle.place.specs.Reply.{outputBy, Replied, Writable};
 
 // What one read did: it brought so many bytes, or found the end of the input, or failed.
 enum Step {
@@ -98,11 +101,22 @@ fn read_input(text: &mut [u8]) -> Reading
     reading
 }
 
+// The output for a list at the side asked for.
+fn put_output(text: &[u8], at: At, buffer: &mut [u8; TextLimits::SHEET]) -> usize
+    ensures length { λ r. ⌜ r ≡ length (outputBy at (now (text .entry))) ⌝ }
+    ensures buffer { λ r. ⌜ now (buffer .exit) ≡ filledWith (outputBy at (now (text .entry))) (now (buffer .entry)) ⌝ }
+{
+    match at {
+        At::Found => output(text, buffer),
+        At::Given(side) => output_at(text, side, buffer),
+    }
+}
+
 // Reads the list into the room and puts its output into the buffer. The bytes read decide every longer text. A list cut short by a
 // failed read has no output.
-fn reply(text: &mut [u8], buffer: &mut [u8; TextLimits::SHEET]) -> Answer
+fn reply(text: &mut [u8], at: At, buffer: &mut [u8; TextLimits::SHEET]) -> Answer
     requires { ⌜ length (now text) ≡ longestText ⌝ }
-    ensures { λ r. ⌜ Replied (now (text .entry)) (now (text .exit)) r (now (buffer .exit)) ⌝ }
+    ensures { λ r. ⌜ Replied at (now (text .entry)) (now (text .exit)) r (now (buffer .exit)) ⌝ }
 {
     let reading = read_input(text);
     let last = reading.last;
@@ -110,12 +124,12 @@ fn reply(text: &mut [u8], buffer: &mut [u8; TextLimits::SHEET]) -> Answer
         return Answer::Unread(reading);
     }
     let n = reading.at;
-    Answer::Output(reading, output(&text[..n], buffer))
+    Answer::Output(reading, put_output(&text[..n], at, buffer))
 }
 
 // Writes the answer: the output, and why the list is refused where it is; or what cannot be read or written.
-fn write_answer(answer: Answer, text: &[u8], buffer: [u8; TextLimits::SHEET])
-    requires { ⌜ Writable answer (now text) buffer ⌝ }
+fn write_answer(answer: Answer, text: &[u8], at: At, buffer: [u8; TextLimits::SHEET])
+    requires { ⌜ Writable at answer (now text) buffer ⌝ }
 {
     let Answer::Output(reading, n) = answer else {
         tell(b"place: standard input cannot be read\n");
@@ -127,15 +141,15 @@ fn write_answer(answer: Answer, text: &[u8], buffer: [u8; TextLimits::SHEET])
     }
     // A refusal starts with the word refused, a sheet with the word side.
     if buffer[0] == b'r' {
-        let at = reading.at;
-        tell_refused(&text[..at]);
+        let n = reading.at;
+        tell_refused(&text[..n], at);
     }
 }
 
-// Answers the list on standard input.
-pub(crate) fn answer_input() {
+// Answers the list on standard input, at the side asked for.
+pub(crate) fn answer_input(at: At) {
     let mut text = [0u8; TextLimits::TEXT];
     let mut buffer = [0u8; TextLimits::SHEET];
-    let answer = reply(&mut text, &mut buffer);
-    write_answer(answer, &text, buffer);
+    let answer = reply(&mut text, at, &mut buffer);
+    write_answer(answer, &text, at, buffer);
 }

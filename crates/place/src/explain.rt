@@ -1,9 +1,11 @@
 // Why a list is refused, on standard error: the line, the rule in words, and a hint where a common cause shows in the line's bytes.
+use crate::asked::At;
 use crate::tell::tell;
 use hints::Explanation;
 use hints::Hint;
 use hints::explain;
 use libc::STDERR_FILENO;
+use plan::calls::is_side;
 use plan::refusal::Refusal;
 ghost use Rattle.place.specs.Reply.{IsRefused};
 
@@ -53,13 +55,36 @@ fn tell_hint(hint: Hint) {
     }
 }
 
-// Why this list is refused: at its first refused line, or since it has no sites.
-pub(crate) fn tell_refused(text: &[u8])
-    requires { ⌜ IsRefused (now text) ⌝ }
+// Whether the side asked for cannot be given.
+fn is_outside(at: At) -> bool {
+    match at {
+        At::Found => false,
+        At::Given(side) => !is_side(side),
+    }
+}
+
+// Why a list of which every line is accepted, and which has so many bytes, is refused.
+fn tell_unplaced(bytes: usize) {
+    if bytes == 0 {
+        tell(b"place: placing a plan of no sites\n");
+    } else {
+        tell(b"place: no good choice exists at the given side\n");
+    }
+}
+
+// Why this list is refused at this side: for the side, at its first refused line, since it has no sites or no good choice.
+pub(crate) fn tell_refused(text: &[u8], at: At)
+    requires { ⌜ IsRefused at (now text) ⌝ }
 {
+    if is_outside(at) {
+        tell(
+            b"place: a side outside the range: it is a number from 1 to 20000, or the word free\n",
+        );
+        return;
+    }
     let explained = explain(text);
     let Explanation::Line(number, why, hint) = explained else {
-        tell(b"place: placing a plan of no sites\n");
+        tell_unplaced(text.len());
         return;
     };
     tell(b"place: line ");

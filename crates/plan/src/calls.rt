@@ -75,7 +75,7 @@ pub fn find(plan: Plan, table: &mut [u8]) -> AskedSide
 }
 
 // Whether a side can be given: a number from 1 to 20,000, or free.
-pub(crate) fn is_side(side: Side) -> bool
+pub fn is_side(side: Side) -> bool
     ensures { λ r. ⌜ r ≡ isSide side ⌝ }
 {
     match side {

@@ -1,4 +1,4 @@
--- `reply` meets its contract: a failed read cut the list short, or what `output` leaves in the buffer is the output for the whole
+-- `reply` meets its contract: a failed read cut the list short, or what `put_output` leaves in the buffer is the output for the whole
 -- input.
 -- Assumes nothing.
 use mathlib.Core.Logic.{⊎-elim}
@@ -45,16 +45,16 @@ input-read c =
 returns : tie.Need-returns
 returns c = record { input-read = input-read (c .before .before); failed = c .enum-told .given .1 }
 
-slice-reshare-prefix-output : tie.Need-slice-reshare-prefix-output
-slice-reshare-prefix-output c = search needs
+slice-reshare-prefix-put-output : tie.Need-slice-reshare-prefix-put-output
+slice-reshare-prefix-put-output c = search needs
 
-slice-aggregate-output : tie.Need-slice-aggregate-output
-slice-aggregate-output c =
+slice-aggregate-put-output : tie.Need-slice-aggregate-put-output
+slice-aggregate-put-output c =
     let known = c .before .before in
     sym (length-take-le _ (known .before .before .read-input .last .0) (omega (arith, input-read known .finished .within)))
 
-output-requires : tie.Need-output-requires
-output-requires c κs = search needs
+put-output-requires : tie.Need-put-output-requires
+put-output-requires c κs = search needs
 
 same-length-2 : tie.Need-same-length-2
 same-length-2 c = search needs
@@ -66,7 +66,7 @@ returns-2 c =
     record {
       input-read = input-read known;
       sound = unfailed (known .before .before .read-input .result .last) (match .match .keys2);
-      output-for = output-for _ _ (c .output .ensures .0) (c .output .ensures .1 .0);
+      output-for = output-for _ _ _ (c .put-output .ensures .0) (c .put-output .ensures .1);
     }
 
 pub reply-spec : {M : Type 1} → statement M
@@ -77,8 +77,8 @@ reply-spec =
     enum-told
     same-length
     returns
-    slice-reshare-prefix-output
-    slice-aggregate-output
-    output-requires
+    slice-reshare-prefix-put-output
+    slice-aggregate-put-output
+    put-output-requires
     same-length-2
     returns-2)

@@ -14,12 +14,13 @@ ghost use Rattle.placing.specs.rules.Units.{OnPlan, mostSites};
 ghost use Rattle.placing.specs.rules.Corner.{Corner};
 ghost use Rattle.placing.specs.code.Sites.{Held, sitesOf, Judged};
 ghost use Rattle.placing.specs.code.Reach.{distanceBetween, Lowered, ReachesWithin, Passed, SiteReaches};
-ghost use Rattle.placing.specs.code.Crowding.{WithSite, CrowdingIs};
+ghost use Rattle.placing.specs.code.Crowding.{SiteWritten, CrowdingIs};
 
-// The reach of each corner of each site, in the places of `Limits::WAYS`; and the top: no side above it, up to the one that was asked,
-// leaves every site a corner. For sides up to the top, the doubled label covers another site where it is above the corner's reach.
+// The reach of each corner of each site, in half units, in the places of `Limits::WAYS`; and the top: no side above it, up to the one that
+// was asked, leaves every site a corner. For sides up to the top, the doubled label covers another site where it is above the corner's
+// reach.
 pub(crate) struct Crowding {
-    pub reaches: [HalfUnits; Limits::WAYS],
+    pub reaches: [u32; Limits::WAYS],
     pub top: HalfUnits,
 }
 
@@ -83,21 +84,24 @@ fn reaches_of(
     reaches
 }
 
-// The reaches so far, with those of site `i`, and the top that they leave: the greatest side at which the site has a corner left is half
-// the furthest of them.
-fn with_site(crowding: Crowding, i: usize, reaches: [HalfUnits; Limits::CORNERS]) -> Crowding
-    requires { ⌜ (length (crowding .reaches) ≡ 4 * mostSites) × (i < mostSites) ⌝ }
-    ensures { λ r. ⌜ WithSite crowding i reaches r ⌝ }
+// Writes the reaches of site `i` into those of all, and gives the top that they leave: the greatest side at which the site has a corner
+// left is half the furthest of them.
+fn write_site(
+    all: &mut [u32; Limits::WAYS],
+    i: usize,
+    reaches: [HalfUnits; Limits::CORNERS],
+) -> HalfUnits
+    requires { ⌜ (length (now all) ≡ 4 * mostSites) × (i < mostSites) ⌝ }
+    ensures { λ r. ⌜ SiteWritten (now (all .entry)) i reaches (now (all .exit)) (r .0) ⌝ }
 {
-    let mut next = crowding;
     let mut furthest = HalfUnits(0);
     for e in 0..Limits::CORNERS {
         let at = 4 * i + e;
-        next.reaches[at] = reaches[e];
-        furthest = furthest.larger(reaches[e]);
+        let reach = reaches[e];
+        all[at] = reach.0;
+        furthest = furthest.larger(reach);
     }
-    next.top = furthest.halved();
-    next
+    furthest.halved()
 }
 
 // The reaches of all sites for sides up to `most`, and the top, which each site may lower: the reaches of the next are found up to it.
@@ -110,12 +114,10 @@ pub(crate) fn crowding_of(
     requires { ⌜ Held n (now xs) (now ys) most ⌝ }
     ensures { λ r. ⌜ CrowdingIs (most .0) (sitesOf n (now (xs .entry)) (now (ys .entry))) n r ⌝ }
 {
-    let mut crowding = Crowding {
-        reaches: [HalfUnits(0); Limits::WAYS],
-        top: most,
-    };
+    let mut reaches = [0u32; Limits::WAYS];
+    let mut top = most;
     for i in 0..n {
-        crowding = with_site(crowding, i, reaches_of(xs, ys, n, i, crowding.top));
+        top = write_site(&mut reaches, i, reaches_of(xs, ys, n, i, top));
     }
-    crowding
+    Crowding { reaches, top }
 }

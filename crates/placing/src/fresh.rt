@@ -28,7 +28,7 @@ pub(crate) fn fresh_state(crowding: Crowding, n: usize, side: HalfUnits) -> Stat
 {
     let mut ways = [0u8; Limits::WAYS];
     for at in 0..4 * n {
-        ways[at] = is_open(crowding.reaches[at], side);
+        ways[at] = is_open(HalfUnits(crowding.reaches[at]), side);
     }
     let decided = [0u8; Limits::SITES];
     State { ways, decided }

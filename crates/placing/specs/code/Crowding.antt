@@ -1,6 +1,6 @@
 -- The reaches of all sites, in one array, and the top: no judged side above it leaves every site a corner.
 -- Assumes nothing.
-use mathlib.Core.Path.{_≡_, ap, subst, _∙_}
+use mathlib.Core.Path.{_≡_, subst}
 use mathlib.Core.List.{List}
 use Prim.Native.Nat.{ℕ, _+_, _-_, _*_, _/_, _≤_, _<_, max}
 use native.Mathlib.Nat.{le-trans}
@@ -11,7 +11,7 @@ use lib.ListN.{length, getD}
 use Rattle.placing.specs.declared.crowding.Crowding.{Crowding}
 use Rattle.placing.specs.declared.units.HalfUnits.{HalfUnits}
 use Rattle.placing.specs.declared.units.Place.{Place}
-use Rattle.placing.specs.rules.Units.{mostSites, freeSide}
+use Rattle.placing.specs.rules.Units.{freeSide}
 use Rattle.placing.specs.rules.Corner.{Corner}
 use Rattle.placing.specs.rules.Choice.{cornerAt, Good}
 use Rattle.placing.specs.search.Rows.{wayOf}
@@ -24,7 +24,7 @@ judgedFree = record { 0 = freeSide }
 
 -- The reach of corner c of site i, in half units, off the array of all.
 abbrev pub reachAt : Crowding → ℕ → ℕ → ℕ
-reachAt crowding i c = getD (crowding .reaches) (wayOf i c) noReach .0
+reachAt crowding i c = getD (crowding .reaches) (wayOf i c) 0
 
 -- No side from this one up to `most` has a good choice.
 pub record NoneFrom (most : ℕ) (ps : List Place) (side : ℕ) : Type 0 where
@@ -62,16 +62,15 @@ furthest-more {reaches} {e} {furthest} corner so-far =
     }
 
 -- The array has the first e reaches of site k besides.
-abbrev pub SiteWritten : (crowding : Crowding) (k : ℕ) (reaches : List HalfUnits) (e : ℕ) (after : Crowding) → Type 0
-SiteWritten crowding k reaches e after =
-    Filled noReach (λ c reach. reach ≡ getD reaches c noReach) (4 * k) e (crowding .reaches) (after .reaches)
+abbrev pub WrittenUpTo : (before : List ℕ) (k : ℕ) (reaches : List HalfUnits) (e : ℕ) (after : List ℕ) → Type 0
+WrittenUpTo before k reaches e after = Filled 0 (λ c reach. reach ≡ getD reaches c noReach .0) (4 * k) e before after
 
--- It has all four, and the top that they leave: half the furthest of them.
-pub record WithSite (crowding : Crowding) (k : ℕ) (reaches : List HalfUnits) (after : Crowding) : Type 0 where
-  pub written : SiteWritten crowding k reaches 4 after
+-- It has all four, and this is the top that they leave: half the furthest of them.
+pub record SiteWritten (before : List ℕ) (k : ℕ) (reaches : List HalfUnits) (after : List ℕ) (top : ℕ) : Type 0 where
+  pub written : WrittenUpTo before k reaches 4 after
   pub furthest : ℕ
   pub of-all : FurthestOf reaches 4 furthest
-  pub half : after .top .0 ≡ furthest / 2
+  pub half : top ≡ furthest / 2
 
 -- Above half the furthest all four corners of the site are crowded, and there is no good choice.
 none-beyond : {ps : List Place} {most top furthest k : ℕ} {reaches : List HalfUnits} → k < length ps → SiteReaches ps top k reaches
@@ -87,43 +86,28 @@ none-beyond {ps} {most} {top} {furthest} {k} listed site of-all none =
         good .uncrowded k listed (site .at-corner c corner .crowds h inside (omega arith))
     go h judged above es good (no outside) = none .none-good h judged (omega arith) es good
 
--- The reaches of the sites below k, in an array of full size.
-pub record CrowdingBelow (most : ℕ) (ps : List Place) (k : ℕ) (crowding : Crowding) : Type 0 where
-  pub size : length (crowding .reaches) ≡ 4 * mostSites
-  pub below : CrowdingIs most ps k crowding
-
--- Those of no sites, with the greatest side for the top ..
-pub crowding-none : {most : ℕ} {ps : List Place} {crowding : Crowding} → length (crowding .reaches) ≡ 4 * mostSites → crowding .top .0 ≡ most
-    → CrowdingBelow most ps 0 crowding
-crowding-none size top-is =
+-- Of no sites, with `most` for the top, they are so ..
+pub crowding-none : {most : ℕ} {ps : List Place} {crowding : Crowding} → crowding .top .0 ≡ most → CrowdingIs most ps 0 crowding
+crowding-none top-is =
     record {
-      size = size;
-      below = record {
-        judged = omega arith;
-        reaches = record { at-corner = λ i c listed. absurd (omega arith) };
-        none-above = record { none-good = λ h judged above. absurd (omega arith) };
-      };
+      judged = omega arith;
+      reaches = record { at-corner = λ i c listed. absurd (omega arith) };
+      none-above = record { none-good = λ h judged above. absurd (omega arith) };
     }
 
 -- .. and of one site more.
 pub crowding-more : {most : ℕ} {ps : List Place} {k : ℕ} {crowding after : Crowding} {reaches : List HalfUnits} → k < length ps
-    → CrowdingBelow most ps k crowding → SiteReaches ps (crowding .top .0) k reaches → ReachesWithin (2 * crowding .top .0) reaches
-    → WithSite crowding k reaches after → CrowdingBelow most ps (k + 1) after
-crowding-more {most} {ps} {k} {crowding} {after} {reaches} listed so-far site within with-site =
+    → CrowdingIs most ps k crowding → SiteReaches ps (crowding .top .0) k reaches → ReachesWithin (2 * crowding .top .0) reaches
+    → SiteWritten (crowding .reaches) k reaches (after .reaches) (after .top .0) → CrowdingIs most ps (k + 1) after
+crowding-more {most} {ps} {k} {crowding} {after} {reaches} listed so-far site within site-written =
     record {
-      size = with-site .written .size ∙ so-far .size;
-      below = record {
-        judged = le-trans lower (so-far .below .judged);
-        reaches = record { at-corner = λ i c there corner. lower-top (go i c there corner (ℕ-discrete i k)) };
-        none-above = rw (with-site .half) (none-beyond listed site (with-site .of-all) (so-far .below .none-above));
-      };
+      judged = le-trans lower (so-far .judged);
+      reaches = record { at-corner = λ i c there corner. lower-top (go i c there corner (ℕ-discrete i k)) };
+      none-above = rw (site-written .half) (none-beyond listed site (site-written .of-all) (so-far .none-above));
     }
   where
-    halfUnits : HalfUnits → ℕ
-    halfUnits reach = reach .0
-
     lower : after .top .0 ≤ crowding .top .0
-    lower = let most = with-site .of-all .least (2 * crowding .top .0) within in omega (arith, with-site .half)
+    lower = let most = site-written .of-all .least (2 * crowding .top .0) within in omega (arith, site-written .half)
 
     lower-top : {i c r : ℕ} → ReachIs ps (crowding .top .0) i c r → ReachIs ps (after .top .0) i c r
     lower-top is =
@@ -131,18 +115,17 @@ crowding-more {most} {ps} {k} {crowding} {after} {reaches} listed so-far site wi
 
     go : (i c : ℕ) → i < k + 1 → Corner c → Dec (i ≡ k) → ReachIs ps (crowding .top .0) i c (reachAt after i c)
     go i c there corner (yes last) =
-        let own : reachAt after k c ≡ reachOf reaches c = ap halfUnits (with-site .written .there (c - 1) (omega arith)) in
+        let own : reachAt after k c ≡ reachOf reaches c = site-written .written .there (c - 1) (omega arith) in
         rw (last, own) (site .at-corner c corner)
     go i c there corner (no earlier) =
-        let same : reachAt after i c ≡ reachAt crowding i c = ap halfUnits (filled-elsewhere (with-site .written) i c earlier corner) in
-        rw same (so-far .below .reaches .at-corner i c (omega arith) corner)
+        rw (filled-elsewhere (site-written .written) i c earlier corner) (so-far .reaches .at-corner i c (omega arith) corner)
 
 -- With all sites written they are the list's.
-pub crowding-all : {most : ℕ} {ps : List Place} {n k : ℕ} {crowding : Crowding} → n ≤ k → CrowdingBelow most ps k crowding
+pub crowding-all : {most : ℕ} {ps : List Place} {n k : ℕ} {crowding : Crowding} → n ≤ k → CrowdingIs most ps k crowding
     → CrowdingIs most ps n crowding
 crowding-all all so-far =
     record {
-      judged = so-far .below .judged;
-      reaches = record { at-corner = λ i c listed. so-far .below .reaches .at-corner i c (le-trans listed all) };
-      none-above = so-far .below .none-above;
+      judged = so-far .judged;
+      reaches = record { at-corner = λ i c listed. so-far .reaches .at-corner i c (le-trans listed all) };
+      none-above = so-far .none-above;
     }

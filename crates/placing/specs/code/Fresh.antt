@@ -17,7 +17,7 @@ use Rattle.placing.specs.search.State.{Fresh}
 use Rattle.placing.specs.code.Sites.{sitesOf}
 use Rattle.placing.specs.code.Labels.{labels}
 use Rattle.placing.specs.code.Filled.{Filled, filled-front}
-use Rattle.placing.specs.code.Reach.{ReachIs, noReach}
+use Rattle.placing.specs.code.Reach.{ReachIs}
 use Rattle.placing.specs.code.Crowding.{reachAt, ReachesAre}
 use Rattle.placing.specs.code.Ways.{Sizes}
 
@@ -29,7 +29,7 @@ pub record OpenByte (reach side byte : ℕ) : Type 0 where
 -- The first k bytes are written, over a list of zeros.
 abbrev pub OpenedBelow : Crowding → ℕ → ℕ → List ℕ → Type 0
 OpenedBelow crowding side k ways =
-    Filled 0 (λ at byte. OpenByte (getD (crowding .reaches) at noReach .0) side byte) 0 k (replicate (4 * mostSites) 0) ways
+    Filled 0 (λ at byte. OpenByte (getD (crowding .reaches) at 0) side byte) 0 k (replicate (4 * mostSites) 0) ways
 
 -- The state at a side before anything is decided, for every n sites that have these reaches.
 pub record FreshState (crowding : Crowding) (n : ℕ) (side : HalfUnits) (ways decided : List ℕ) : Type 0 where

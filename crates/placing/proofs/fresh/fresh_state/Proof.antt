@@ -21,11 +21,11 @@ mul-at-end c = search needs
 loop-holds : tie.Need-loop-holds Inv-loop μ-loop
 loop-holds c = (omega arith, filled-none)
 
-mul-is-open : tie.Need-mul-is-open Inv-loop μ-loop
-mul-is-open c = search needs
+mul-t11 : tie.Need-mul-t11 Inv-loop μ-loop
+mul-t11 c = search needs
 
-element-copy-out-is-open : tie.Need-element-copy-out-is-open Inv-loop μ-loop
-element-copy-out-is-open c = search needs
+element-copy-out-t14 : tie.Need-element-copy-out-t14 Inv-loop μ-loop
+element-copy-out-t14 c = search needs
 
 is-open-requires : tie.Need-is-open-requires Inv-loop μ-loop
 is-open-requires c κs = search needs
@@ -59,8 +59,8 @@ fresh-state-spec =
     μ-loop
     mul-at-end
     loop-holds
-    mul-is-open
-    element-copy-out-is-open
+    mul-t11
+    element-copy-out-t14
     is-open-requires
     array-write-ways
     add-at

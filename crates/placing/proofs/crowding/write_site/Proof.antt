@@ -1,4 +1,4 @@
--- `crowding::with_site` meets its contract. The loop's invariant: the first `e` reaches of the site are written, and `furthest` is the
+-- `crowding::write_site` meets its contract. The loop's invariant: the first `e` reaches of the site are written, and `furthest` is the
 -- furthest of them.
 -- Assumes nothing.
 use native.Mathlib.Omega.{arith}
@@ -6,15 +6,15 @@ use borrow.Author.Needs.{needs}
 use mathlib.Core.Path.{_≡_, refl}
 use Prim.Native.Nat.{_≤_, _-_}
 use Rattle.placing.specs.code.Filled.{filled-none, filled-more}
-use Rattle.placing.specs.code.Crowding.{SiteWritten, FurthestOf, furthest-none, furthest-more}
-use Rattle.placing.proofs.crowding.with_site.Statement.{statement}
-use Rattle.placing.proofs.crowding.with_site.Tie as tie
+use Rattle.placing.specs.code.Crowding.{WrittenUpTo, FurthestOf, furthest-none, furthest-more}
+use Rattle.placing.proofs.crowding.write_site.Statement.{statement}
+use Rattle.placing.proofs.crowding.write_site.Tie as tie
 
 abbrev Inv-loop : tie.InvT-loop
-Inv-loop i reaches next₀ furthest₀ e₀ next furthest e = (e ≤ 4) × SiteWritten next₀ i reaches e next × FurthestOf reaches e (furthest .0)
+Inv-loop all₀ i reaches furthest₀ e₀ all furthest e = (e ≤ 4) × WrittenUpTo all₀ i reaches e all × FurthestOf reaches e (furthest .0)
 
 abbrev μ-loop : tie.MeasureT-loop
-μ-loop i reaches next₀ furthest₀ e₀ next furthest e = 4 - e
+μ-loop all₀ i reaches furthest₀ e₀ all furthest e = 4 - e
 
 loop-holds : tie.Need-loop-holds Inv-loop μ-loop
 loop-holds c = (omega arith, filled-none, furthest-none)
@@ -25,23 +25,17 @@ mul-at c = search needs
 add-at : tie.Need-add-at Inv-loop μ-loop
 add-at c = omega arith
 
-mul-next : tie.Need-mul-next Inv-loop μ-loop
-mul-next c = search needs
+mul-reach : tie.Need-mul-reach Inv-loop μ-loop
+mul-reach c = search needs
 
-array-copy-out-next : tie.Need-array-copy-out-next Inv-loop μ-loop
-array-copy-out-next c = search needs
+array-copy-out-reach : tie.Need-array-copy-out-reach Inv-loop μ-loop
+array-copy-out-reach c = search needs
 
-mul-larger : tie.Need-mul-larger Inv-loop μ-loop
-mul-larger c = search needs
+mul-all : tie.Need-mul-all Inv-loop μ-loop
+mul-all c = search needs
 
-element-set-from-larger : tie.Need-element-set-from-larger Inv-loop μ-loop
-element-set-from-larger c = search needs
-
-mul-larger-2 : tie.Need-mul-larger-2 Inv-loop μ-loop
-mul-larger-2 c = search needs
-
-array-copy-out-larger : tie.Need-array-copy-out-larger Inv-loop μ-loop
-array-copy-out-larger c = search needs
+element-write-all : tie.Need-element-write-all Inv-loop μ-loop
+element-write-all c = search needs
 
 larger-requires : tie.Need-larger-requires Inv-loop μ-loop
 larger-requires c κs = search needs
@@ -54,7 +48,7 @@ loop-less c = omega arith
 
 loop-again : tie.Need-loop-again Inv-loop μ-loop
 loop-again c =
-    let at-loop = c .before .before .before .before in (
+    let at-loop = c .before .before .before in (
       omega arith,
       filled-more (at-loop .loop .inv .1) (omega arith) refl,
       rw (c .larger .ensures) (furthest-more (omega arith) (at-loop .loop .inv .2)),
@@ -74,8 +68,8 @@ returns c =
       half = c .halved .ensures;
     }
 
-pub with-site-spec : {M : Type 1} → statement M
-with-site-spec =
+pub write-site-spec : {M : Type 1} → statement M
+write-site-spec =
     tie.close
     (tie.spec
     Inv-loop
@@ -83,12 +77,10 @@ with-site-spec =
     loop-holds
     mul-at
     add-at
-    mul-next
-    array-copy-out-next
-    mul-larger
-    element-set-from-larger
-    mul-larger-2
-    array-copy-out-larger
+    mul-reach
+    array-copy-out-reach
+    mul-all
+    element-write-all
     larger-requires
     add-e
     loop-less

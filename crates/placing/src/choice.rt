@@ -140,8 +140,8 @@ fn first_corners(corners: [u8; Limits::SITES], n: usize) -> [u8; Limits::SITES]
     first
 }
 
-// The first good choice at a side for the first `n` sites at these coordinates. Where the top that crowding leaves is below the side there
-// is none.
+// The first good choice at a side for the first `n` sites at these coordinates. Up to side 1 every choice is good, and corner 1 everywhere
+// is the first. Where the top that crowding leaves is below the side there is none.
 pub(crate) fn first_choice(
     xs: &[u32; Limits::SITES],
     ys: &[u32; Limits::SITES],
@@ -153,6 +153,12 @@ pub(crate) fn first_choice(
     ensures first { λ r. ⌜ r ≡ choiceAs (firstGood (side .0) (sitesOf n (now (xs .entry)) (now (ys .entry)))) ⌝ }
     ensures kept { λ r. ⌜ Kept n (now (marks .entry)) (now (marks .exit)) ⌝ }
 {
+    if side.at_most(HalfUnits(Limits::LEAST_SIDE)) {
+        return Choice {
+            exists: true,
+            corners: first_corners([1u8; Limits::SITES], n),
+        };
+    }
     let none = Choice {
         exists: false,
         corners: [0u8; Limits::SITES],

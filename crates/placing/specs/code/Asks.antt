@@ -7,7 +7,7 @@ use Prim.Native.Nat.{ℕ, _≤_, _<_}
 use lib.ListN.{length}
 use Rattle.placing.specs.declared.units.HalfUnits.{HalfUnits}
 use Rattle.placing.specs.declared.crowding.Crowding.{Crowding}
-use Rattle.placing.specs.rules.Units.{mostSites}
+use Rattle.placing.specs.rules.Units.{mostSites, Distinct}
 use Rattle.placing.specs.rules.Corner.{Corner}
 use Rattle.placing.specs.rules.Choice.{cornerAt}
 use Rattle.placing.specs.code.Sites.{Held, HasPlace, sitesOf, Judged}
@@ -99,4 +99,5 @@ pub record MayChoose (n : ℕ) (xs ys : List ℕ) (side : HalfUnits) (crowding :
 -- Choosing at a side, with nothing prepared.
 pub record MayChooseAt (n : ℕ) (xs ys : List ℕ) (side : HalfUnits) (marks : List ℕ) : Type 0 where
   pub held : Held n xs ys side
+  pub distinct : Distinct (sitesOf n xs ys)
   pub room : n ≤ length marks

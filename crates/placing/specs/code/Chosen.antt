@@ -2,18 +2,20 @@
 -- Assumes nothing.
 use mathlib.Core.Path.{_≡_, refl, sym, ap, _∙_}
 use mathlib.Core.Bool.{Bool, true, false}
-use mathlib.Core.List.{List, _++_}
+use mathlib.Core.List.{List, _∷_, _++_}
 use mathlib.Core.Option.{Option, some, none}
-use Prim.Native.Nat.{ℕ, _-_, _≤_}
+use Prim.Native.Nat.{ℕ, zero, suc, _-_, _≤_}
+use native.Mathlib.Nat.{le-of-suc-le-suc}
 use native.Mathlib.Omega.{arith}
 use lib.ListN.{length, take, replicate}
 use Rattle.placing.specs.declared.choice.Choice.{Choice}
 use Rattle.placing.specs.declared.choice.Chosen.{Chosen}
 use Rattle.placing.specs.declared.units.Place.{Place}
-use Rattle.placing.specs.rules.Units.{mostSites}
+use Rattle.placing.specs.rules.Units.{mostSites, Distinct}
 use Rattle.placing.specs.rules.Choice.{First}
 use Rattle.placing.specs.deciding.Answer.{firstGood}
 use Rattle.placing.specs.calls.Placing.{choiceAs}
+use Rattle.placing.specs.theorems.Choice.{first-at-one}
 use Rattle.placing.specs.theorems.Answer.{NoneGood, firstGood-some, firstGood-none, first-found, none-found}
 use Rattle.placing.specs.code.Sites.{sitesOf}
 use Rattle.placing.specs.search.State.{Walked}
@@ -49,17 +51,35 @@ walked-choice h n xs ys false ways decided few walked =
 
 -- ---- what choosing at a side hands back
 
+-- Corner 1 for the first n of k sites.
+take-ones : (n k : ℕ) → n ≤ k → _≡_ {A = List ℕ} (take n (replicate k 1)) (replicate n 1)
+take-ones zero k few = refl
+take-ones (suc n) zero few = absurd (omega arith)
+take-ones (suc n) (suc k) few = ap (λ (l : List ℕ). 1 ∷ l) (take-ones n k (le-of-suc-le-suc few))
+
 module _ (h : ℕ) (ps : List Place) where
   -- Where no good choice exists.
   pub no-choice : NoneGood h ps → record { exists = false; corners = replicate mostSites 0 } ≡ choiceAs (firstGood h ps)
   no-choice none-good = sym (ap choiceAs (none-found none-good))
 
+  -- Where it is these corners.
+  choice-is : {n : ℕ} {cs first : List ℕ} → length ps ≡ n → firstGood h ps ≡ some cs → first ≡ cs ++ replicate (mostSites - n) 0
+      → record { exists = true; corners = first } ≡ choiceAs (firstGood h ps)
+  choice-is {n} {cs} count made held =
+      let size : length cs ≡ n = firstGood-some made .good .corners .one-each ∙ count in
+      ap {B = Choice} (λ (l : List ℕ). record { exists = true; corners = l })
+      (held ∙ ap (λ (k : ℕ). cs ++ replicate (mostSites - k) 0) (sym size))
+      ∙ sym (ap choiceAs made)
+
   -- Where the walk has led to one.
   pub choice-found : {n : ℕ} (chosen : Chosen) {first : List ℕ} → length ps ≡ n → choiceIn n chosen ≡ firstGood h ps → chosen .ok ≡ true
       → first ≡ take n (chosen .corners) ++ replicate (mostSites - n) 0 → record { exists = true; corners = first } ≡ choiceAs (firstGood h ps)
-  choice-found {n} chosen {first} count is ok held =
-      let made : firstGood h ps ≡ some (take n (chosen .corners)) = sym is ∙ ap (λ (b : Bool). whereYes b (take n (chosen .corners))) ok in
-      let size : length (take n (chosen .corners)) ≡ n = firstGood-some made .good .corners .one-each ∙ count in
-      ap {B = Choice} (λ (cs : List ℕ). record { exists = true; corners = cs })
-      (held ∙ ap (λ (k : ℕ). take n (chosen .corners) ++ replicate (mostSites - k) 0) (sym size))
-      ∙ sym (ap choiceAs made)
+  choice-found {n} chosen count is ok = choice-is count (sym is ∙ ap (λ (b : Bool). whereYes b (take n (chosen .corners))) ok)
+
+  -- Up to side 1, where it is corner 1 everywhere.
+  pub ones-found : {n : ℕ} {first : List ℕ} → h ≤ 1 → Distinct ps → length ps ≡ n → n ≤ mostSites
+      → first ≡ take n (replicate mostSites 1) ++ replicate (mostSites - n) 0
+      → record { exists = true; corners = first } ≡ choiceAs (firstGood h ps)
+  ones-found {n} small distinct count few held =
+      choice-is count (first-found (first-at-one small distinct) ∙ ap (λ (k : ℕ). some (replicate k 1)) count)
+      (held ∙ ap (λ (l : List ℕ). l ++ replicate (mostSites - n) 0) (take-ones n mostSites few))

@@ -30,7 +30,7 @@ pub record MayBisect (n : ℕ) (xs ys : List ℕ) (crowding : Crowding) (marks :
 
 -- Finding asks all that choosing does.
 pub may-choose : {n : ℕ} {xs ys marks : List ℕ} → MayFind n xs ys marks → (side : HalfUnits) → side .0 ≤ freeSide → MayChooseAt n xs ys side marks
-may-choose may side judged = record { held = held-at side judged (may .held); room = may .room }
+may-choose may side judged = record { held = held-at side judged (may .held); distinct = may .distinct; room = may .room }
 
 -- The lists of coordinates of a list that may be placed.
 pub may-find : {n : ℕ} {sites : List Place} {xs ys table : List ℕ} → MayPlace n sites table → CoordinatesOf n sites xs ys

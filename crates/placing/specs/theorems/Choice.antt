@@ -3,7 +3,7 @@
 use mathlib.Core.Path.{_≡_, refl, sym, _∙_}
 use mathlib.Core.List.{List, [], _∷_}
 use mathlib.Core.Logic.{_≢_, Ne·symm, _⊎_, inl, inr}
-use Prim.Native.Nat.{ℕ, _≤_, _<_}
+use Prim.Native.Nat.{ℕ, suc, _≤_, _<_, zero-le, suc-le-suc}
 use native.Mathlib.Decide.{ℕ-discrete, decLt}
 use native.Mathlib.Omega.{arith}
 use lib.ListN.{length, replicate, length-replicate, getD-replicate}
@@ -124,3 +124,16 @@ first-unique {h} {ps} {cs} {es} one other =
     go (inl same) = same
     go (inr (inl before)) = absurd (other .none-before cs (one .good) before)
     go (inr (inr after)) = absurd (one .none-before es (other .good) after)
+
+-- No list of corners comes before the one that has corner 1 everywhere.
+ones-first : (n : ℕ) (es : List ℕ) → ((i : ℕ) → i < n → 1 ≤ cornerAt es i) → Before es (replicate n 1) → ⊥
+ones-first (suc n) (e ∷ es) corner (lower less) = omega (arith, corner 0 (suc-le-suc zero-le))
+ones-first (suc n) (e ∷ es) corner (later b) = ones-first n es (λ i listed. corner (suc i) (suc-le-suc listed)) b
+
+-- Up to side 1 every choice is good, and corner 1 everywhere is the first.
+pub first-at-one : {h : ℕ} {ps : List Place} → h ≤ 1 → Distinct ps → First h ps (replicate (length ps) 1)
+first-at-one {h} {ps} small distinct =
+    record {
+      good = good-smaller small (good-one-exists distinct);
+      none-before = λ es good. ones-first (length ps) es (λ i listed. good .corners .corner i listed .least);
+    }

@@ -3,6 +3,7 @@ pub mod Sites
 pub mod Labels
 pub mod Filled
 pub mod Reach
+pub mod Pairs
 pub mod Crowding
 pub mod Ways
 pub mod Asks

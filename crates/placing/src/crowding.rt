@@ -1,5 +1,5 @@
-// How far each corner reaches before it is crowded. This does not depend on the side that is tried, so it is found once for a
-// list. Where all four corners of a site are crowded there is no good choice: so the reaches also bound the side.
+// How far each corner reaches before it is crowded. This does not depend on the side that is tried, so it is found once for all of
+// them. Where all four corners of a site are crowded there is no good choice: so the reaches also bound the side.
 use crate::geometry::distance;
 use crate::geometry::distance_between;
 use crate::geometry::lies_toward;
@@ -8,13 +8,14 @@ use crate::units::HalfUnits;
 use crate::units::Limits;
 use crate::units::Place;
 ghost use mathlib.Core.Path.{_≡_};
-ghost use Prim.Native.Nat.{_*_, _<_};
+ghost use Prim.Native.Nat.{_+_, _*_, _<_};
 ghost use lib.ListN.{length};
-ghost use Rattle.placing.specs.rules.Units.{OnPlan, mostSites};
+ghost use Rattle.placing.specs.rules.Units.{mostSites};
 ghost use Rattle.placing.specs.rules.Corner.{Corner};
-ghost use Rattle.placing.specs.code.Sites.{Held, sitesOf, Judged};
-ghost use Rattle.placing.specs.code.Reach.{distanceBetween, Lowered, ReachesWithin, Passed, SiteReaches};
-ghost use Rattle.placing.specs.code.Crowding.{SiteWritten, CrowdingIs};
+ghost use Rattle.placing.specs.code.Sites.{Held, sitesOf};
+ghost use Rattle.placing.specs.code.Reach.{distanceBetween, Lowered};
+ghost use Rattle.placing.specs.code.Pairs.{SiteLowered, MayLower, PairLowered, RowsBelow, ReachesOver};
+ghost use Rattle.placing.specs.code.Crowding.{TopLeft, CrowdingIs};
 
 // The reach of each corner of each site, in half units, in the places of `Limits::WAYS`; and the top: no side above it, up to the one that
 // was asked, leaves every site a corner. For sides up to the top, the doubled label covers another site where it is above the corner's
@@ -36,75 +37,75 @@ fn lowered(reach: HalfUnits, away: HalfUnits, s: Place, c: u8, t: Place) -> Half
     if lies_toward(s, c, t) { away } else { reach }
 }
 
-// The reaches of site `i`, corner 1 first, which stands at `s`, for sides up to `top`: `reaches` so far, with site `j` passed, which stands
-// at `t`. Most sites lie too far away along x to count. A site does not crowd itself.
-fn passed(
-    reaches: [HalfUnits; Limits::CORNERS],
+// Lowers the reaches of site `i`, which stands at `s`, by one other site: the one at `t`, which lies `away`.
+fn lower_site(reaches: &mut [u32; Limits::WAYS], i: usize, s: Place, t: Place, away: HalfUnits)
+    requires { ⌜ (length (now reaches) ≡ 4 * mostSites) × (i < mostSites) × (away .0 ≡ distanceBetween s t) ⌝ }
+    ensures { λ r. ⌜ SiteLowered i s t (now (reaches .entry)) (now (reaches .exit)) ⌝ }
+{
+    for e in 0..Limits::CORNERS {
+        let at = 4 * i + e;
+        let reach = lowered(HalfUnits(reaches[at]), away, s, (e + 1) as u8, t);
+        reaches[at] = reach.0;
+    }
+}
+
+// Lowers the reaches of sites `i` and `j`, which stand at `s` and `t`, by each other, for sides up to `top`. Most sites lie too far away
+// along x to count.
+fn lower_pair(
+    reaches: &mut [u32; Limits::WAYS],
     top: HalfUnits,
     i: usize,
     s: Place,
     j: usize,
     t: Place,
-) -> [HalfUnits; Limits::CORNERS]
-    requires { ⌜ OnPlan s × OnPlan t × Judged top × ReachesWithin (2 * top .0) reaches ⌝ }
-    ensures { λ r. ⌜ Passed i s j t reaches r ⌝ }
+)
+    requires { ⌜ MayLower (now reaches) top i s j t ⌝ }
+    ensures { λ r. ⌜ PairLowered (top .0) i s j t (now (reaches .entry)) (now (reaches .exit)) ⌝ }
 {
     if top.doubled().at_most(distance(s.x, t.x)) {
-        return reaches;
-    }
-    if j == i {
-        return reaches;
+        return;
     }
     let away = distance_between(s, t);
-    let mut next = reaches;
-    for e in 0..Limits::CORNERS {
-        next[e] = lowered(reaches[e], away, s, (e + 1) as u8, t);
-    }
-    next
+    lower_site(reaches, i, s, t, away);
+    lower_site(reaches, j, t, s, away);
 }
 
-// The reaches of site `i` for sides up to `top`: over no other site they are twice the top, and each other site may lower them.
-fn reaches_of(
+// Lowers the reaches of site `i` and of each later site by each other, for sides up to `top`.
+fn lower_row(
     xs: &[u32; Limits::SITES],
     ys: &[u32; Limits::SITES],
     n: usize,
-    i: usize,
+    reaches: &mut [u32; Limits::WAYS],
     top: HalfUnits,
-) -> [HalfUnits; Limits::CORNERS]
-    requires { ⌜ Held n (now xs) (now ys) top × (i < n) ⌝ }
-    ensures reaches { λ r. ⌜ SiteReaches (sitesOf n (now (xs .entry)) (now (ys .entry))) (top .0) i r ⌝ }
-    ensures within { λ r. ⌜ ReachesWithin (2 * top .0) r ⌝ }
+    i: usize,
+)
+    requires { ⌜ Held n (now xs) (now ys) top × (i < n)
+        × ReachesOver (sitesOf n (now xs) (now ys)) (top .0) (RowsBelow i) (now reaches) ⌝ }
+    ensures { λ r. ⌜ ReachesOver (sitesOf n (now (xs .entry)) (now (ys .entry))) (top .0) (RowsBelow (i + 1)) (now (reaches .exit)) ⌝ }
 {
     let s = place_at(xs[i], ys[i]);
-    let mut reaches = [top.doubled(); Limits::CORNERS];
-    for j in 0..n {
-        let next = passed(reaches, top, i, s, j, place_at(xs[j], ys[j]));
-        reaches = next;
+    for j in i + 1..n {
+        lower_pair(reaches, top, i, s, j, place_at(xs[j], ys[j]));
     }
-    reaches
 }
 
-// Writes the reaches of site `i` into those of all, and gives the top that they leave: the greatest side at which the site has a corner
-// left is half the furthest of them.
-fn write_site(
-    all: &mut [u32; Limits::WAYS],
-    i: usize,
-    reaches: [HalfUnits; Limits::CORNERS],
-) -> HalfUnits
-    requires { ⌜ (length (now all) ≡ 4 * mostSites) × (i < mostSites) ⌝ }
-    ensures { λ r. ⌜ SiteWritten (now (all .entry)) i reaches (now (all .exit)) (r .0) ⌝ }
+// The top that site `i` leaves: the greatest side up to `top` at which it has a corner left, so no more than half the furthest of its
+// reaches.
+fn top_left(reaches: &[u32; Limits::WAYS], i: usize, top: HalfUnits) -> HalfUnits
+    requires { ⌜ (length (now reaches) ≡ 4 * mostSites) × (i < mostSites) ⌝ }
+    ensures { λ r. ⌜ TopLeft (now (reaches .entry)) i (top .0) (r .0) ⌝ }
 {
     let mut furthest = HalfUnits(0);
     for e in 0..Limits::CORNERS {
         let at = 4 * i + e;
-        let reach = reaches[e];
-        all[at] = reach.0;
-        furthest = furthest.larger(reach);
+        furthest = furthest.larger(HalfUnits(reaches[at]));
     }
-    furthest.halved()
+    let half = furthest.halved();
+    if half.below(top) { half } else { top }
 }
 
-// The reaches of all sites for sides up to `most`, and the top, which each site may lower: the reaches of the next are found up to it.
+// The reaches of all sites for sides up to `most`, and the top. Over no sites they are twice `most`; each pair of sites is gone over once.
+// The top falls with each site, and the next pairs are gone over for sides up to it.
 pub(crate) fn crowding_of(
     xs: &[u32; Limits::SITES],
     ys: &[u32; Limits::SITES],
@@ -114,10 +115,12 @@ pub(crate) fn crowding_of(
     requires { ⌜ Held n (now xs) (now ys) most ⌝ }
     ensures { λ r. ⌜ CrowdingIs (most .0) (sitesOf n (now (xs .entry)) (now (ys .entry))) n r ⌝ }
 {
-    let mut reaches = [0u32; Limits::WAYS];
+    let furthest = most.doubled();
+    let mut reaches = [furthest.0; Limits::WAYS];
     let mut top = most;
     for i in 0..n {
-        top = write_site(&mut reaches, i, reaches_of(xs, ys, n, i, top));
+        lower_row(xs, ys, n, &mut reaches, top, i);
+        top = top_left(&reaches, i, top);
     }
     Crowding { reaches, top }
 }

@@ -18,7 +18,8 @@ use Rattle.placing.specs.code.Sites.{sitesOf}
 use Rattle.placing.specs.code.Labels.{labels}
 use Rattle.placing.specs.code.Filled.{Filled, filled-front}
 use Rattle.placing.specs.code.Reach.{ReachIs}
-use Rattle.placing.specs.code.Crowding.{reachAt, ReachesAre}
+use Rattle.placing.specs.code.Pairs.{reachAt}
+use Rattle.placing.specs.code.Crowding.{ReachesAre}
 use Rattle.placing.specs.code.Ways.{Sizes}
 
 -- The byte of a corner with this reach: 1 where the doubled side is within it.
@@ -75,5 +76,5 @@ fresh-all {crowding} {n} {side} {ways} few opened =
           };
     }
   where
-    byte-at : (i c : ℕ) → i < n → Corner c → OpenByte (reachAt crowding i c) (side .0) (rowOf ways i c)
+    byte-at : (i c : ℕ) → i < n → Corner c → OpenByte (reachAt (crowding .reaches) i c) (side .0) (rowOf ways i c)
     byte-at i c listed corner = rw (row-at ways i c corner) (filled-front opened (wayOf i c) (omega arith))

@@ -1,25 +1,27 @@
--- How far a corner reaches before it is crowded, for sides up to a top: over the other sites one after another.
+-- How far a corner reaches before it is crowded, for sides up to a top: over some of the other sites, and over all.
 -- Assumes nothing.
-use mathlib.Core.Path.{_≡_, ap, _∙_, subst}
+use mathlib.Core.Path.{_≡_, ap₂, subst}
 use mathlib.Core.List.{List}
 use mathlib.Core.Logic.{_≢_, _⊎_, inl, inr}
-use Prim.Native.Nat.{ℕ, _+_, _-_, _*_, _≤_, _<_, max}
-use native.Mathlib.Nat.{le-trans}
-use native.Mathlib.Decide.{ℕ-discrete}
+use Prim.Native.Nat.{ℕ, _*_, _≤_, _<_, max}
 use native.Mathlib.Omega.{arith}
-use lib.ListN.{length, getD, replicate, getD-replicate}
-use Rattle.placing.specs.declared.units.HalfUnits.{HalfUnits}
+use lib.ListN.{length}
 use Rattle.placing.specs.declared.units.Place.{Place}
 use Rattle.placing.specs.rules.Units.{Axis, X, Y, along, inHalfUnits, dist, siteAt}
-use Rattle.placing.specs.rules.Corner.{Corner, toward}
+use Rattle.placing.specs.rules.Corner.{toward}
 use Rattle.placing.specs.rules.Label.{Onward}
 use Rattle.placing.specs.rules.Crowd.{DoubledCovers, Crowded}
-use Rattle.placing.specs.code.Filled.{Filled, filled-front}
-use Rattle.placing.specs.code.Sites.{siteIn, sitesOf, length-sites, site-at}
+use Rattle.placing.specs.theorems.Label.{dist-symmetric}
 
 -- The distance between two places, in half units: the larger of their distances along the axes.
 abbrev pub distanceBetween : Place → Place → ℕ
 distanceBetween s t = max (inHalfUnits (dist (along X s) (along X t))) (inHalfUnits (dist (along Y s) (along Y t)))
+
+-- It is the same from both.
+pub distance-symmetric : (s t : Place) → distanceBetween s t ≡ distanceBetween t s
+distance-symmetric s t =
+    ap₂ (λ (x y : ℕ). max (inHalfUnits x) (inHalfUnits y)) (dist-symmetric (along X s) (along X t))
+    (dist-symmetric (along Y s) (along Y t))
 
 -- The place t lies at 0 or more in both directions of corner c of s.
 abbrev pub LiesToward : Place → ℕ → Place → Type 0
@@ -43,44 +45,11 @@ pub record ReachIs (ps : List Place) (top i c r : ℕ) : Type 0 where
   pub crowds : (h : ℕ) → h ≤ top → r < 2 * h → Crowded h ps i c
   pub below : (h : ℕ) → h ≤ top → Crowded h ps i c → r < 2 * h
 
--- What stands past the end of an array of reaches: nothing depends on it.
-abbrev pub noReach : HalfUnits
-noReach = record { 0 = 0 }
-
--- One site's reach at corner c, in half units, off the array of its four.
-abbrev pub reachOf : List HalfUnits → ℕ → ℕ
-reachOf reaches c = getD reaches (c - 1) noReach .0
-
--- For sides up to the top, the reaches of site i are these.
-pub record SiteReaches (ps : List Place) (top i : ℕ) (reaches : List HalfUnits) : Type 0 where
-  pub at-corner : (c : ℕ) → Corner c → ReachIs ps top i c (reachOf reaches c)
-
--- None of a site's reaches is above `most`.
-pub record ReachesWithin (most : ℕ) (reaches : List HalfUnits) : Type 0 where
-  pub within : (c : ℕ) → Corner c → reachOf reaches c ≤ most
-
 -- With t as one other place more, the reach of corner c of s falls from `before` to `after`: to where the doubled label covers t.
 pub record Lowered (s : Place) (c : ℕ) (t : Place) (before after : ℕ) : Type 0 where
   pub falls : after ≤ before
   pub covers : (h : ℕ) → after < 2 * h → (before < 2 * h) ⊎ DoubledCovers h s c t
   pub below : (h : ℕ) → DoubledCovers h s c t → after < 2 * h
-
--- The reaches of site i, at s, with site j passed, at t: another site may lower them, and the site itself does not count.
-pub record Passed (i : ℕ) (s : Place) (j : ℕ) (t : Place) (before after : List HalfUnits) : Type 0 where
-  pub itself : j ≡ i → after ≡ before
-  pub other : j ≢ i → (c : ℕ) → Corner c → Lowered s c t (reachOf before c) (reachOf after c)
-
--- The reaches of the first e corners are lowered so.
-abbrev pub LoweredUpTo : (s t : Place) (before : List HalfUnits) (e : ℕ) (after : List HalfUnits) → Type 0
-LoweredUpTo s t before e after =
-    Filled noReach (λ k reach. Lowered s (k + 1) t (getD before k noReach .0) (reach .0)) 0 e before after
-
--- With all four that is so of every corner.
-pub lowered-all : {s t : Place} {before after : List HalfUnits} → LoweredUpTo s t before 4 after
-    → (c : ℕ) → Corner c → Lowered s c t (reachOf before c) (reachOf after c)
-lowered-all {s} {t} {before} {after} filled c corner =
-    let same : c - 1 + 1 ≡ c = omega arith in
-    subst (λ e. Lowered s e t (reachOf before c) (reachOf after c)) same (filled-front filled (c - 1) (omega arith))
 
 -- A place as far away as the reach, or farther, leaves it as it is ..
 pub lowered-far : {s t : Place} {c reach : ℕ} → reach ≤ distanceBetween s t → Lowered s c t reach reach
@@ -110,85 +79,62 @@ lowered-there near lies =
       below = λ h covers. covers-near covers;
     }
 
--- For sides up to the top, the reach over the sites below k other than i: at those whose double is above r corner c of site i is
+-- For sides up to the top, the reach of corner c of site i over some of the other sites: at sides whose double is above r the corner is
 -- crowded, and at those at which it covers one of these sites r is passed.
-pub record ReachAmong (ps : List Place) (top i c k r : ℕ) : Type 0 where
-  pub most : r ≤ 2 * top
+pub record ReachOver (ps : List Place) (top i c : ℕ) (Over : ℕ → Type 0) (r : ℕ) : Type 0 where
   pub crowds : (h : ℕ) → h ≤ top → r < 2 * h → Crowded h ps i c
-  pub below : (h j : ℕ) → j < k → j ≢ i → DoubledCovers h (siteAt ps i) c (siteAt ps j) → r < 2 * h
+  pub below : (h j : ℕ) → h ≤ top → j < length ps → j ≢ i → Over j → DoubledCovers h (siteAt ps i) c (siteAt ps j) → r < 2 * h
 
--- With one site more it is the reach that falls by that site.
-among-other : {ps : List Place} {top i c k r q : ℕ} → k < length ps → k ≢ i → ReachAmong ps top i c k r
-    → Lowered (siteAt ps i) c (siteAt ps k) r q → ReachAmong ps top i c (k + 1) q
-among-other {ps} {top} {i} {c} {k} {r} {q} listed different among lowered =
+module _ {ps : List Place} {top i c r : ℕ} {Over : ℕ → Type 0} (over : ReachOver ps top i c Over r) where
+  -- So over fewer sites.
+  pub over-fewer : {Fewer : ℕ → Type 0} → ((j : ℕ) → j < length ps → j ≢ i → Fewer j → Over j) → ReachOver ps top i c Fewer r
+  over-fewer fewer =
+      record {
+        crowds = over .crowds;
+        below = λ h j inside listed different passed. over .below h j inside listed different (fewer j listed different passed);
+      }
+
+  -- With one site more it is the reach that falls by that site ..
+  pub over-lowered : {k q : ℕ} → k < length ps → k ≢ i → Lowered (siteAt ps i) c (siteAt ps k) r q
+      → ReachOver ps top i c (λ j. Over j ⊎ (j ≡ k)) q
+  over-lowered {k} {q} k-listed k-differs lowered =
+      record {
+        crowds = λ h inside above. one-above h inside (lowered .covers h above);
+        below = λ h j inside listed different passed covers. is-passed h j inside listed different covers passed;
+      }
+    where
+      one-above : (h : ℕ) → h ≤ top → (r < 2 * h) ⊎ DoubledCovers h (siteAt ps i) c (siteAt ps k) → Crowded h ps i c
+      one-above h inside (inl so-far) = over .crowds h inside so-far
+      one-above h inside (inr covers) = record { other = k; listed = k-listed; different = k-differs; covered = covers }
+
+      is-passed : (h j : ℕ) → h ≤ top → j < length ps → j ≢ i → DoubledCovers h (siteAt ps i) c (siteAt ps j) → Over j ⊎ (j ≡ k) → q < 2 * h
+      is-passed h j inside listed different covers (inl earlier) =
+          let so-far : r < 2 * h = over .below h j inside listed different earlier covers in
+          omega (arith, lowered .falls)
+      is-passed h j inside listed different covers (inr last) =
+          lowered .below h (subst (λ m. DoubledCovers h (siteAt ps i) c (siteAt ps m)) last covers)
+
+  -- .. and stays as it is where that site is not nearer than the doubled top.
+  pub over-far : {k : ℕ} → 2 * top ≤ distanceBetween (siteAt ps i) (siteAt ps k) → ReachOver ps top i c (λ j. Over j ⊎ (j ≡ k)) r
+  over-far {k} far =
+      record {
+        crowds = over .crowds;
+        below = λ h j inside listed different passed covers. is-passed h j inside listed different covers passed;
+      }
+    where
+      is-passed : (h j : ℕ) → h ≤ top → j < length ps → j ≢ i → DoubledCovers h (siteAt ps i) c (siteAt ps j) → Over j ⊎ (j ≡ k) → r < 2 * h
+      is-passed h j inside listed different covers (inl earlier) = over .below h j inside listed different earlier covers
+      is-passed h j inside listed different covers (inr last) =
+          let near = covers-near (subst (λ m. DoubledCovers h (siteAt ps i) c (siteAt ps m)) last covers) in
+          absurd (omega arith)
+
+-- Over all other sites it is the reach.
+pub over-all : {ps : List Place} {top i c r : ℕ} {Over : ℕ → Type 0} → ((j : ℕ) → j < length ps → Over j) → ReachOver ps top i c Over r
+    → ReachIs ps top i c r
+over-all all over =
     record {
-      most = omega (arith, lowered .falls, among .most);
-      crowds = λ h inside above. one-above h inside (lowered .covers h above);
-      below = λ h j there other covers. passed h j there other covers (ℕ-discrete j k);
-    }
-  where
-    one-above : (h : ℕ) → h ≤ top → (r < 2 * h) ⊎ DoubledCovers h (siteAt ps i) c (siteAt ps k) → Crowded h ps i c
-    one-above h inside (inl so-far) = among .crowds h inside so-far
-    one-above h inside (inr covers) = record { other = k; listed = listed; different = different; covered = covers }
-
-    passed : (h j : ℕ) → j < k + 1 → j ≢ i → DoubledCovers h (siteAt ps i) c (siteAt ps j) → Dec (j ≡ k) → q < 2 * h
-    passed h j there other covers (yes last) =
-        lowered .below h (subst (λ m. DoubledCovers h (siteAt ps i) c (siteAt ps m)) last covers)
-    passed h j there other covers (no earlier) =
-        let passed-earlier : r < 2 * h = among .below h j (omega arith) other covers in
-        omega (arith, lowered .falls)
-
--- For sides up to the top, the reaches of site i over the sites below k.
-pub record SiteAmong (ps : List Place) (top i k : ℕ) (reaches : List HalfUnits) : Type 0 where
-  pub at-corner : (c : ℕ) → Corner c → ReachAmong ps top i c k (reachOf reaches c)
-
--- They are within the doubled top.
-pub site-within : {ps : List Place} {top i k : ℕ} {reaches : List HalfUnits} → SiteAmong ps top i k reaches
-    → ReachesWithin (2 * top) reaches
-site-within among = record { within = λ c corner. among .at-corner c corner .most }
-
--- Over no sites they are the doubled top.
-pub site-none : {ps : List Place} {top i : ℕ} (most : HalfUnits) → most .0 ≡ 2 * top → SiteAmong ps top i 0 (replicate 4 most)
-site-none {ps} {top} {i} most double = record { at-corner = λ c corner. none c corner (is c corner) }
-  where
-    is : (c : ℕ) → Corner c → reachOf (replicate 4 most) c ≡ 2 * top
-    is c corner = ap (λ (reach : HalfUnits). reach .0) (getD-replicate 4 (c - 1) most noReach (omega arith)) ∙ double
-
-    none : (c : ℕ) → Corner c → reachOf (replicate 4 most) c ≡ 2 * top → ReachAmong ps top i c 0 (reachOf (replicate 4 most) c)
-    none c corner same =
-        record {
-          most = omega arith;
-          crowds = λ h inside above. absurd (omega arith);
-          below = λ h j listed. absurd (omega arith);
-        }
-
--- One site more, of sites that are held in two lists; the site itself does not count.
-pub site-more : (xs ys : List ℕ) {n top i k : ℕ} {before after : List HalfUnits} → i < n → k < n
-    → SiteAmong (sitesOf n xs ys) top i k before → Passed i (siteIn xs ys i) k (siteIn xs ys k) before after
-    → SiteAmong (sitesOf n xs ys) top i (k + 1) after
-site-more xs ys {n} {top} {i} {k} {before} {after} listed more among passed =
-    record { at-corner = λ c corner. go c corner (ℕ-discrete k i) }
-  where
-    go : (c : ℕ) → Corner c → Dec (k ≡ i) → ReachAmong (sitesOf n xs ys) top i c (k + 1) (reachOf after c)
-    go c corner (yes same) =
-        rw (passed .itself same)
-        (record {
-          most = among .at-corner c corner .most;
-          crowds = among .at-corner c corner .crowds;
-          below = λ h j there different covers. among .at-corner c corner .below h j (omega arith) different covers;
-        })
-    go c corner (no different) =
-        among-other (rw length-sites more) different (among .at-corner c corner)
-        (rw (site-at n xs ys i listed, site-at n xs ys k more) (passed .other different c corner))
-
--- Over all sites they are the site's reaches.
-pub site-all : {ps : List Place} {top i k : ℕ} {reaches : List HalfUnits} → length ps ≤ k → SiteAmong ps top i k reaches
-    → SiteReaches ps top i reaches
-site-all all among =
-    record {
-      at-corner = λ c corner. record {
-        crowds = among .at-corner c corner .crowds;
-        below = λ h inside crowded.
-            among .at-corner c corner .below h (crowded .other) (le-trans (crowded .listed) all) (crowded .different) (crowded .covered);
-      };
+      crowds = over .crowds;
+      below = λ h inside crowded.
+          over .below h (crowded .other) inside (crowded .listed) (crowded .different) (all (crowded .other) (crowded .listed))
+          (crowded .covered);
     }

@@ -141,8 +141,8 @@ fn write_answer(answer: Answer, text: &[u8], at: At, buffer: [u8; TextLimits::SH
     }
     // A refusal starts with the word refused, a sheet with the word side.
     if buffer[0] == b'r' {
-        let n = reading.at;
-        tell_refused(&text[..n], at);
+        let end = reading.at;
+        tell_refused(&text[..end], at);
     }
 }
 

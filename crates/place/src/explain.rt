@@ -78,7 +78,7 @@ pub(crate) fn tell_refused(text: &[u8], at: At)
 {
     if is_outside(at) {
         tell(
-            b"place: a side outside the range: it is a number from 1 to 20000, or the word free\n",
+            b"place: a side outside the range: it is a number from 1 to 20000, with no leading zero, or the word free\n",
         );
         return;
     }

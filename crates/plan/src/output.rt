@@ -85,13 +85,13 @@ pub fn place_list_at(text: &[u8], side: Side) -> Planned
         return refuse(Plan::start(), Refusal::BadNumber);
     }
     let listed = read(text);
-    let reading = listed.outcome;
-    if let Outcome::Refused(_) = reading {
+    let outcome = listed.outcome;
+    if let Outcome::Refused(_) = outcome {
         return listed;
     }
-    let mut table = [0u8; TextLimits::TABLE];
+    let mut work_table = [0u8; TextLimits::TABLE];
     let level = listed.plan;
-    let placed = choose_at(level, side, &mut table);
+    let placed = choose_at(level, side, &mut work_table);
     let choosing = placed.outcome;
     if let Outcome::Refused(why) = choosing {
         return refuse(Plan::start(), why);

@@ -1,5 +1,6 @@
 -- `is_side` meets its contract: a number is tested at both ends. Assumes nothing.
 use borrow.Author.Tests.{lt-leb, le-leb}
+use native.Mathlib.Omega.{arith}
 use borrow.Author.Needs.{needs}
 use Rattle.plan.proofs.calls.is_side.Statement.{statement}
 use Rattle.plan.proofs.calls.is_side.Tie as tie
@@ -8,7 +9,7 @@ enum-known-side : tie.Need-enum-known-side
 enum-known-side c = search needs
 
 returns : tie.Need-returns
-returns c = rw (c .before .before .before .side .given .1, lt-leb 1 (c .before .before .before .side .given .0 .0 .0) (c .if1 .taken))
+returns c = rw (c .before .before .before .side .given .1, lt-leb 1 (c .before .before .before .side .given .0 .0 .0) (omega (arith, c .if1 .taken)))
 
 enum-told : tie.Need-enum-told
 enum-told c = search needs

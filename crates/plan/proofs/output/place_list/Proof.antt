@@ -1,9 +1,10 @@
 -- `plan::output::place_list` meets its contract: the list is refused, or its plan is placed at the side found, with a table that is enough
 -- for every plan. Assumes nothing.
-use mathlib.Core.Path.{sym, _∙_, subst}
+use mathlib.Core.Path.{_≡_, sym, _∙_, subst}
+use mathlib.Core.List.{List}
 use Prim.Native.Nat.{ℕ}
 use native.Mathlib.Omega.{arith}
-use lib.ListN.{replicate, length-replicate}
+use lib.ListN.{length, replicate, length-replicate}
 use denote.Ref.{now}
 use Rattle.plan.specs.declared.plan.Planned.{Planned}
 use Rattle.plan.specs.calls.Lengths.{fullTable}
@@ -13,6 +14,13 @@ use Rattle.plan.specs.code.Filling.{reading-refused, reading-unfound, re
 use borrow.Author.Needs.{needs}
 use Rattle.plan.proofs.output.place_list.Statement.{statement}
 use Rattle.plan.proofs.output.place_list.Tie as tie
+
+-- The work table that is lent, and its length.
+abbrev lent : List ℕ
+lent = replicate fullTable 0
+
+lent-size : length lent ≡ fullTable
+lent-size = length-replicate {A = ℕ} fullTable 0
 
 read-requires : tie.Need-read-requires
 read-requires c κs = search needs
@@ -59,7 +67,7 @@ returns-2 c =
     let told = found .before .before .before in
     let listed = told .before .before in
     let text = now (listed .before .before .args .text) in
-    let placed = reading-placed text (replicate fullTable 0) (length-replicate {A = ℕ} fullTable 0) (found .find .last .1 .0) (search needs)
+    let placed = reading-placed text lent lent-size (found .find .last .1 .0) (search needs)
     (listed .read .ensures .0) (told .enum-told2 .given .1) (sym (known .found .given .1) ∙ found .find .ensures .0) (chosen .choose-at .ensures .0) in
     (placed, (chosen .choose-at .ensures .1 .1 .0, list-told text placed))
 
@@ -71,7 +79,7 @@ returns-3 c =
     let listed = told .before .before in
     let text = now (listed .before .before .args .text) in
     let refused = c .refuse .ensures
-    ∙ reading-unfound text (replicate fullTable 0) (length-replicate {A = ℕ} fullTable 0)
+    ∙ reading-unfound text lent lent-size
     (listed .read .ensures .0) (told .enum-told2 .given .1) (sym (known .found2 .given .1) ∙ found .find .ensures .0) in
     (refused, (subst (λ (p : Planned). Valid (p .plan)) (sym (c .refuse .ensures)) (listed .read .ensures .1 .0), list-told text refused))
 

@@ -1,15 +1,20 @@
 -- The demands name one output: whoever answers a text by them writes the same bytes.
 -- Assumes nothing.
 use mathlib.Core.Path.{_≡_, refl, sym, ap, ap₂, _∙_, subst}
+use mathlib.Core.Bool.{true≢false}
 use mathlib.Core.List.{List, []}
 use Prim.Native.Nat.{ℕ, _≤_}
 use native.Mathlib.Omega.{arith}
-use Rattle.placing.specs.rules.Answer.{Answer, IsAnswer}
+use Rattle.placing.specs.declared.units.Side.{Side}
+use Rattle.placing.specs.rules.Choice.{SomeGood}
+use Rattle.placing.specs.rules.Answer.{Answer, judgedAt, IsAnswer}
 use Rattle.placing.specs.theorems.Answer.{answer-unique}
+use Rattle.placing.specs.theorems.Given.{is-chosen-at}
 use Rattle.plan.specs.rules.Refusal.{Test, numberBy, Result, accepted, refused}
 use Rattle.plan.specs.rules.List.{Site, placesOf, Reads, end}
 use Rattle.plan.specs.rules.Sheet.{sheetWith, refusalLine}
 use Rattle.plan.specs.Demands.{Refuses, FirstRefused, Accepts, ListRefused, at-line, no-sites, RightSheet, SheetFor, Answered, refusal-line, list-sheet}
+use Rattle.plan.specs.Demands.{RefusedAt, out-of-range, refused-list, none-good, PlacedSheet, SheetForAt, AnsweredAt, refusal-at, sheet-at}
 use Rattle.plan.specs.theorems.Tables.{Tells, table-tells}
 use Rattle.plan.specs.theorems.Reading.{reads-unique, reads-are}
 use Rattle.plan.specs.theorems.FirstLine.{first-refused-one, refused-not-read, refused-list-not-accepted}
@@ -38,6 +43,42 @@ answered-one (refusal-line r is) (list-sheet b) = absurd (refused-list-not-accep
 answered-one (list-sheet a) (refusal-line s so) = absurd (refused-list-not-accepted s (a .accepts))
 answered-one {one = one} (list-sheet a) (list-sheet b) =
     right-one (subst (λ (sites : List Site). RightSheet sites one) (accepted-same (a .accepts) (b .accepts)) (a .right)) (b .right)
+
+-- ---- at a given side
+
+-- A list is refused with one number there, too,
+refused-at-one : {side : Side} {text : List ℕ} {n m : ℕ} → RefusedAt side text n → RefusedAt side text m → n ≡ m
+refused-at-one (out-of-range r) (out-of-range s) = refl
+refused-at-one (out-of-range r) (refused-list given s) = absurd (true≢false (sym given ∙ r))
+refused-at-one (out-of-range r) (none-good given sites accepts none) = absurd (true≢false (sym given ∙ r))
+refused-at-one (refused-list given r) (out-of-range s) = absurd (true≢false (sym given ∙ s))
+refused-at-one (refused-list given r) (refused-list given′ s) = refused-one r s
+refused-at-one (refused-list given r) (none-good given′ sites accepts none) = absurd (refused-list-not-accepted r accepts)
+refused-at-one (none-good given sites accepts none) (out-of-range s) = absurd (true≢false (sym given ∙ s))
+refused-at-one (none-good given sites accepts none) (refused-list given′ s) = absurd (refused-list-not-accepted s accepts)
+refused-at-one (none-good given sites accepts none) (none-good given′ others accepts′ none′) = refl
+
+-- has one sheet,
+pub placed-one : {sites : List Site} {side : Side} {one other : List ℕ} → PlacedSheet sites side one → PlacedSheet sites side other → one ≡ other
+placed-one {sites} a b =
+    a .prints ∙ ap (sheetWith sites) (is-chosen-at (a .is-chosen) ∙ sym (is-chosen-at (b .is-chosen))) ∙ sym (b .prints)
+
+-- and not both.
+refused-no-sheet : {side : Side} {text sheet : List ℕ} {n : ℕ} → RefusedAt side text n → SheetForAt side text sheet → ⊥
+refused-no-sheet (out-of-range r) for = true≢false (sym (for .placed .is-chosen .given) ∙ r)
+refused-no-sheet (refused-list given r) for = refused-list-not-accepted r (for .accepts)
+refused-no-sheet {side} (none-good given sites accepts none) for =
+    none
+    (subst (λ (l : List Site). SomeGood (judgedAt side) (placesOf l)) (accepted-same (for .accepts) accepts)
+    (record { choice = for .placed .corners; good = for .placed .is-chosen .first .good }))
+
+-- So two outputs for the same text at the same side are one.
+pub answered-at-one : {side : Side} {text one other : List ℕ} → AnsweredAt side text one → AnsweredAt side text other → one ≡ other
+answered-at-one (refusal-at r is) (refusal-at s so) = is ∙ ap refusalLine (refused-at-one r s) ∙ sym so
+answered-at-one (refusal-at r is) (sheet-at b) = absurd (refused-no-sheet r b)
+answered-at-one (sheet-at a) (refusal-at s so) = absurd (refused-no-sheet s a)
+answered-at-one {side} {one = one} (sheet-at a) (sheet-at b) =
+    placed-one (subst (λ (sites : List Site). PlacedSheet sites side one) (accepted-same (a .accepts) (b .accepts)) (a .placed)) (b .placed)
 
 -- What a call tells: the number of its table, and where that is a refusal everything as it came.
 pub told-tells : {Given : Type 0} {given : ℕ} {before after : Given} (tests : List Test) → Refuses given (numberBy tests) before after

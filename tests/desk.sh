@@ -340,11 +340,42 @@ else
     echo 'Nothing can be mounted here: a full disk is not tried.'
 fi
 
-for words in '' 'level.list level.list' nothing.list . --help; do
+for words in '' 'level.list level.list' 'level.list abc' 'level.list -4' 'level.list 4.5' 'level.list Free' 'level.list 4 5' \
+    nothing.list 'nothing.list 4' . --help; do
     fresh "$made/example.list"
-    echo 'usage: file-a-sheet LIST    where LIST is a file that can be read' >"$desk/complained"
+    echo 'usage: file-a-sheet LIST [SIDE]    where LIST is a file that can be read, and SIDE a number of half units or free' \
+        >"$desk/complained"
     files "bad usage: \"$words\"" 2 $words
 done
+fresh "$made/example.list"
+echo 'usage: file-a-sheet LIST [SIDE]    where LIST is a file that can be read, and SIDE a number of half units or free' >"$desk/complained"
+files 'an empty word for the side' 2 level.list ''
+
+# At a stock size
+fresh "$made/example.list"
+printf 'side\t4\nA\t10\t10\t1\nB\t10\t14\t1\nC\t10\t20\t1\n' >"$desk/should/level.sheet"
+echo 'level.sheet: side 4 as given, sites 3' >"$desk/said"
+files 'at side 4' 0 level.list 4
+fresh "$made/alone.list"
+printf 'side\tfree\nA\t5\t5\t1\n' >"$desk/should/level.sheet"
+echo 'level.sheet: side free as given, sites 1' >"$desk/said"
+files 'at side free' 0 level.list free
+for side in 7 free 0 20001 04; do
+    fresh "$made/example.list"
+    "$program" "$side" <"$made/example.list" >"$made/answer" 2>"$desk/complained"
+    complains "level.list is refused, number $(cut -f 2 "$made/answer")"
+    files "refused at side $side" 1 level.list "$side"
+done
+written at-another-side <<'END'
+#!/bin/sh
+printf 'side\t6\n'
+sed 's/$/\t1/'
+END
+with=$desk/bin/at-another-side
+fresh "$made/example.list"
+complains 'the sheet of level.list is not at side 4'
+files 'a sheet at another side' 1 level.list 4
+with=$program
 
 # ---- clean-list
 # clean: it leaves nothing in the folder for temporary files

@@ -2,18 +2,27 @@
 -- Assumes nothing.
 use mathlib.Core.Path.{_≡_, refl, sym, ap, ap₂, _∙_, subst}
 use mathlib.Core.Bool.{true≢false}
+use mathlib.Core.Logic.{_⊎_, inl, inr}
 use mathlib.Core.List.{List, []}
 use Prim.Native.Nat.{ℕ, _≤_}
+use native.Mathlib.Decide.{ℕ-discrete}
 use native.Mathlib.Omega.{arith}
+use lib.ListN.{length}
 use Rattle.placing.specs.declared.units.Side.{Side}
 use Rattle.placing.specs.rules.Choice.{SomeGood}
 use Rattle.placing.specs.rules.Answer.{Answer, judgedAt, IsAnswer}
 use Rattle.placing.specs.theorems.Answer.{answer-unique}
 use Rattle.placing.specs.theorems.Given.{is-chosen-at}
 use Rattle.plan.specs.rules.Refusal.{Test, numberBy, Result, accepted, refused}
-use Rattle.plan.specs.rules.List.{Site, placesOf, Reads, end}
+use Rattle.plan.specs.declared.plan.Plan.{Plan}
+use Rattle.plan.specs.declared.plan.Planned.{Planned}
+use Rattle.plan.specs.rules.List.{Site, placesOf, listText, Reads, end}
 use Rattle.plan.specs.rules.Sheet.{sheetWith, refusalLine}
-use Rattle.plan.specs.Demands.{Refuses, FirstRefused, Accepts, ListRefused, at-line, no-sites, RightSheet, SheetFor, Answered, refusal-line, list-sheet}
+use Rattle.plan.specs.rules.Calls.{choosingTests, cleared}
+use Rattle.plan.specs.deciding.Output.{outputOf, existsAt, outputAt}
+use Rattle.plan.specs.calls.Plan.{sitesIn}
+use Rattle.plan.specs.calls.Answers.{outcomeNumber}
+use Rattle.plan.specs.Demands.{Refuses, ChooseTold, FirstRefused, Accepts, ListRefused, at-line, no-sites, RightSheet, SheetFor, Answered, refusal-line, list-sheet}
 use Rattle.plan.specs.Demands.{RefusedAt, out-of-range, refused-list, none-good, PlacedSheet, SheetForAt, AnsweredAt, refusal-at, sheet-at}
 use Rattle.plan.specs.theorems.Tables.{Tells, table-tells}
 use Rattle.plan.specs.theorems.Reading.{reads-unique, reads-are}
@@ -80,7 +89,41 @@ answered-at-one (sheet-at a) (refusal-at s so) = absurd (refused-no-sheet s a)
 answered-at-one {side} {one = one} (sheet-at a) (sheet-at b) =
     placed-one (subst (λ (sites : List Site). PlacedSheet sites side one) (accepted-same (a .accepts) (b .accepts)) (a .placed)) (b .placed)
 
--- What a call tells: the number of its table, and where that is a refusal everything as it came.
+-- ---- the list that a sheet carries
+
+-- It is the text, and gives the sheet again,
+pub carried-again : {text sheet : List ℕ} → SheetFor text sheet → outputOf text ≡ sheet
+carried-again for = ap outputOf (sym (for .gives-back)) ∙ for .right .again
+
+-- at a given side when it is placed there;
+pub carried-again-at : {side : Side} {text sheet : List ℕ} → SheetForAt side text sheet → outputAt side text ≡ sheet
+carried-again-at {side} for = ap (outputAt side) (sym (for .gives-back)) ∙ for .placed .again side (for .placed .side-on)
+
+-- and it is that of the sites.
+pub carried-sites : {side : Side} {text sheet : List ℕ} (for : SheetForAt side text sheet) → text ≡ listText (for .sites)
+carried-sites for = sym (for .gives-back) ∙ for .placed .list
+
+-- ---- what a call tells
+
+-- Choosing: the number of its table, the plan as it came where that is a refusal, and the table as it came or cleared.
+pub choose-tells : {plan : Plan} {side : Side} {table : List ℕ} {r : Planned} {after : List ℕ} → ChooseTold plan side table r after
+    → Tells (choosingTests side (plan .count) (length table) (existsAt side (sitesIn plan))) (outcomeNumber (r .outcome))
+    × ((1 ≤ outcomeNumber (r .outcome) → r .plan ≡ plan) × ((after ≡ table) ⊎ (after ≡ cleared (plan .count) table)))
+choose-tells {plan} {side} {table} {r} {after} told = (
+  subst (Tells _) (sym (told .number-is))
+      (table-tells (choosingTests side (plan .count) (length table) (existsAt side (sitesIn plan)))),
+  (λ some-number. told .plan-kept (λ zero. omega arith), by-number (ℕ-discrete number 0) (ℕ-discrete number 12)),
+)
+  where
+    number : ℕ
+    number = outcomeNumber (r .outcome)
+
+    by-number : Dec (number ≡ 0) → Dec (number ≡ 12) → (after ≡ table) ⊎ (after ≡ cleared (plan .count) table)
+    by-number (yes zero) other = inr (told .table-cleared (inl zero))
+    by-number (no some) (yes twelve) = inr (told .table-cleared (inr twelve))
+    by-number (no some) (no other) = inl (told .table-kept some other)
+
+-- Another call: the number of its table, and where that is a refusal everything as it came.
 pub told-tells : {Given : Type 0} {given : ℕ} {before after : Given} (tests : List Test) → Refuses given (numberBy tests) before after
     → Tells tests given × (1 ≤ numberBy tests → after ≡ before)
 told-tells tests told = (

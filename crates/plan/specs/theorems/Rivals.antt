@@ -8,6 +8,7 @@ use Prim.Native.Nat.{ℕ, _*_, _≤_, _<_}
 use native.Mathlib.Omega.{arith}
 use lib.ListN.{length}
 use Rattle.placing.specs.declared.units.Place.{Place}
+use Rattle.placing.specs.declared.units.Side.{Side}
 use Rattle.placing.specs.rules.Units.{siteAt, Distinct}
 use Rattle.placing.specs.rules.Label.{Point, Covers}
 use Rattle.placing.specs.rules.Choice.{cornerAt, Corners, MeetingPair}
@@ -16,7 +17,7 @@ use Rattle.placing.specs.theorems.Answer.{answer-unique}
 use Rattle.placing.specs.theorems.CommonPoint.{meet-exactly}
 use Rattle.plan.specs.rules.List.{Site, Listed, placesOf}
 use Rattle.plan.specs.rules.Sheet.{numberOn, spotsOn}
-use Rattle.plan.specs.Demands.{NoRival, RightSheet}
+use Rattle.plan.specs.Demands.{NoRival, RightSheet, PrintsFound, PlacedSheet}
 
 -- The labels of some two of these places, at these corners and the side p/q, cover a common point.
 pub record CommonPoint (p q : ℕ) (ps : List Place) (cs : List ℕ) : Type 0 where
@@ -62,3 +63,9 @@ right-common {sheet} listed right {h} is p q some-q above corners =
     let spots : Distinct (spotsOn sheet) = rw (right .spots) (listed .places-distinct) in
     subst (λ (ps : List Place). Corners (length ps) corners → CommonPoint p q ps corners) (right .spots)
     (rivals-common (right .no-rival) spots h p q printed some-q above corners)
+
+-- The same over a sheet at whatever side, where it prints the side found for its spots.
+pub placed-common : {sites : List Site} {side : Side} {sheet : List ℕ} → Listed sites → PlacedSheet sites side sheet → PrintsFound sheet
+    → {h : ℕ} {cs : List ℕ} → IsAnswer (placesOf sites) (numbered h cs) → (p q : ℕ) → 1 ≤ q → 2 * h * q < p → (corners : List ℕ)
+    → Corners (length (placesOf sites)) corners → CommonPoint p q (placesOf sites) corners
+placed-common listed placed prints = right-common listed (placed .at-found prints)

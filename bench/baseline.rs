@@ -1,6 +1,6 @@
 //! A straightforward placer of the same lists, to compare cost with. It follows the rules of document 01 and the same method:
 //! decide a corner, carry the decision on, walk the sites in list order, bisect for the side. Usage:
-//!     baseline place < LIST          writes the sheet
+//!     baseline place [SIDE] < LIST   writes the sheet, at the side found or at this one
 //!     baseline list KIND N           writes a list: random, grid, row, diagonal, antidiagonal, packed, jitter
 use std::io::{self, Read, Write};
 
@@ -115,8 +115,7 @@ fn place(sites: &[Site]) -> (Option<i64>, Vec<usize>) {
     (Some(low), best)
 }
 
-fn sheet(sites: &[Site]) -> String {
-    let (side, corners) = place(sites);
+fn sheet_with(sites: &[Site], side: Option<i64>, corners: Vec<usize>) -> String {
     let mut text = match side {
         Some(h) => format!("side\t{}\n", h),
         None => String::from("side\tfree\n"),
@@ -125,6 +124,20 @@ fn sheet(sites: &[Site]) -> String {
         text.push_str(&format!("{}\t{}\t{}\t{}\n", s.name, s.x, s.y, c + 1));
     }
     text
+}
+
+fn sheet(sites: &[Site]) -> String {
+    let (side, corners) = place(sites);
+    sheet_with(sites, side, corners)
+}
+
+// The sheet at a given side, from 1 to 20,000 or free, or its refusal.
+fn sheet_at(sites: &[Site], word: &str) -> String {
+    let side = word.parse().ok();
+    match choose(side.unwrap_or(FREE), sites) {
+        Some(corners) => sheet_with(sites, side, corners),
+        None => String::from("refused\t12\n"),
+    }
 }
 
 fn read_list() -> Vec<Site> {
@@ -172,9 +185,12 @@ fn make_list(kind: &str, n: usize) -> String {
 fn main() {
     let words: Vec<String> = std::env::args().collect();
     let text = match words.get(1).map(|w| w.as_str()) {
-        Some("place") => sheet(&read_list()),
+        Some("place") => match words.get(2) {
+            Some(side) => sheet_at(&read_list(), side),
+            None => sheet(&read_list()),
+        },
         Some("list") => make_list(&words[2], words[3].parse().unwrap()),
-        _ => panic!("usage: baseline place < LIST, or baseline list KIND N"),
+        _ => panic!("usage: baseline place [SIDE] < LIST, or baseline list KIND N"),
     };
     io::stdout().write_all(text.as_bytes()).unwrap();
 }

@@ -1,6 +1,7 @@
-/* A list on standard input, and in the file that the first word names what `place` writes for it: tries the call with buffers of many
-   sizes, and prints each size, and what came where it should not. Every byte of a buffer comes as a pattern; list and buffer end
-   each where memory that cannot be touched begins, and the list cannot be written. */
+/* A list on standard input, and in the file that the first word names the output for it: tries a call with buffers of many sizes, and
+   prints each size, and what came where it should not. The call is that at a side where a second word gives one, as a number. Every byte
+   of a buffer comes as a pattern; list and buffer end each where memory that cannot be touched begins, and the list cannot be
+   written. */
 #include <stdio.h>
 #include <stdlib.h>
 #include <string.h>
@@ -42,48 +43,63 @@ static int holds(struct pages pages, const uint8_t *sheet, size_t written) {
     return 1;
 }
 
+static uint8_t text[ROOM], output[ROOM];
+static size_t text_length, output_length;
+static int given;
+static uint32_t side;
+
+/* The number of the refusal; 0 where the output is a sheet. */
+static size_t refusal(void) {
+    return memcmp(output, "refused\t", 8) == 0 ? strtoul((char *)output + 8, 0, 10) : 0;
+}
+
+/* Prints the size and makes the call with a buffer of so many bytes; not 0 where something came that should not. By `const` the compiler
+   refuses a header that declares the buffer first. */
+static int wrong_with(const uint8_t *list, size_t size) {
+    size_t written = refusal() || size < output_length ? 0 : output_length;
+    size_t should = written ? written : refusal() ? refusal() : 10;
+    struct pages buffer = lend(size);
+    int wrong = 0;
+    printf("%zu ", size);
+    size_t came = given ? lemoncanyon_sheet_at(list, text_length, side, buffer.lent, size)
+                        : lemoncanyon_sheet(list, text_length, buffer.lent, size);
+    if (came != should) {
+        printf("(came %zu, should %zu) ", came, should);
+        wrong = 1;
+    }
+    if (!holds(buffer, output, written)) {
+        printf("(wrong bytes) ");
+        wrong = 1;
+    }
+    return wrong;
+}
+
 int main(int count, char **words) {
-    static uint8_t text[ROOM], output[ROOM];
-    size_t text_length = fread(text, 1, ROOM, stdin);
-    FILE *file = count == 2 ? fopen(words[1], "rb") : 0;
+    text_length = fread(text, 1, ROOM, stdin);
+    FILE *file = count == 2 || count == 3 ? fopen(words[1], "rb") : 0;
     if (!file) {
-        puts("usage: buffers OUTPUT-OF-PLACE < LIST");
+        puts("usage: buffers OUTPUT [SIDE] < LIST");
         return 2;
     }
-    size_t output_length = fread(output, 1, ROOM, file);
-
-    struct pages copy = lend(text_length);
-    memcpy(copy.lent, text, text_length);
-    mprotect(copy.start, copy.length, PROT_READ);
-    /* By `const` the compiler refuses a header that declares the buffer first. */
-    const uint8_t *list = copy.lent;
-
-    /* 0 where `place` wrote a sheet. */
-    size_t refusal = memcmp(output, "refused\t", 8) == 0 ? strtoul((char *)output + 8, 0, 10) : 0;
-    if (!refusal && (output_length < LEMONCANYON_SHORTEST || output_length > LEMONCANYON_LONGEST)) {
+    output_length = fread(output, 1, ROOM, file);
+    given = count == 3;
+    side = given ? strtoul(words[2], 0, 10) : 0;
+    size_t shortest = given ? LEMONCANYON_SHORTEST_AT : LEMONCANYON_SHORTEST;
+    if (!refusal() && (output_length < shortest || output_length > LEMONCANYON_LONGEST)) {
         printf("a sheet of %zu bytes is outside the limits\n", output_length);
         return 1;
     }
 
-    size_t sizes[] = {LEMONCANYON_LONGEST + 100, LEMONCANYON_LONGEST, output_length + 1, output_length, output_length - 1,
-                      LEMONCANYON_SHORTEST, LEMONCANYON_SHORTEST - 1, 1, 0};
+    struct pages list = lend(text_length);
+    memcpy(list.lent, text, text_length);
+    mprotect(list.start, list.length, PROT_READ);
+
+    size_t sizes[] = {LEMONCANYON_LONGEST + 100, LEMONCANYON_LONGEST, output_length + 2, output_length + 1, output_length,
+                      output_length - 1, output_length - 2, shortest, shortest - 1, 1, 0};
     int wrong = 0;
     /* So that a crash does not lose the size that it came with. */
     setvbuf(stdout, 0, _IONBF, 0);
-    for (size_t i = 0; i < sizeof sizes / sizeof *sizes; i++) {
-        size_t written = refusal || sizes[i] < output_length ? 0 : output_length;
-        size_t should = written ? written : refusal ? refusal : 10;
-        struct pages buffer = lend(sizes[i]);
-        printf("%zu ", sizes[i]);
-        size_t came = lemoncanyon_sheet(list, text_length, buffer.lent, sizes[i]);
-        if (came != should) {
-            printf("(came %zu, should %zu) ", came, should);
-            wrong = 1;
-        }
-        if (!holds(buffer, output, written)) {
-            printf("(wrong bytes) ");
-            wrong = 1;
-        }
-    }
+    for (size_t i = 0; i < sizeof sizes / sizeof *sizes; i++)
+        wrong |= wrong_with(list.lent, sizes[i]);
     return wrong;
 }

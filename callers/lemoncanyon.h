@@ -1,5 +1,6 @@
-/* Square labels for the spots of a car park level: from the bytes of a list to the bytes of its sheet in one call.
-   Link target/staticlib/libsheet_call.a, which `rt staticlib sheet_call` writes. The contract is proved in crates/sheet_call.
+/* Square labels for the spots of a car park level: from the bytes of a list to the bytes of its sheet in one call, at the greatest side or
+   at a side of the caller's.
+   Link target/staticlib/libsheet_call.a, which `rt staticlib sheet_call` writes. The contracts are proved in crates/sheet_call.
 
    Platform: Linux on x86-64 (x86_64-unknown-linux-gnu, the System V calling convention), for programs in C, C++ or Rust.
    Threads: any number of threads may call at the same time. The library holds no bytes that can be written, so that a call depends on
@@ -14,22 +15,28 @@
 extern "C" {
 #endif
 
-/* callers/run compares these three numbers with those of the proved programs. */
+/* callers/run compares these five numbers with the source, the proved programs and the shortest sheets. */
 
-/* No sheet is shorter: a number below this is a refusal. */
+/* No sheet of lemoncanyon_sheet is shorter: a number below this is a refusal. */
 #define LEMONCANYON_SHORTEST 18
 
-/* No sheet is longer: a buffer of this size is never too short. */
+/* No sheet of lemoncanyon_sheet_at is shorter: a number below this is a refusal. */
+#define LEMONCANYON_SHORTEST_AT 15
+
+/* No sheet of either is longer: a buffer of this size is never too short. */
 #define LEMONCANYON_LONGEST 5531
 
 /* These first bytes of a longer list decide that it is refused, and with which number. */
 #define LEMONCANYON_LIST 5061
 
-/* Places the sites of a list and writes its sheet.
+/* Given as a side: free, where no side is too large. */
+#define LEMONCANYON_FREE 4294967295u
 
-   The caller owes: `list` points to `list_length` bytes that can be read and `buffer` to `buffer_length` bytes that can be
+/* Of both calls the caller owes: `list` points to `list_length` bytes that can be read and `buffer` to `buffer_length` bytes that can be
    written; neither pointer is null, even with length 0; the two do not overlap, and nothing else changes them during the call.
-   The call keeps nothing, calls only memcpy and memset, and needs at most 120 KB of stack (measured, not proved).
+   A call keeps nothing, calls only memcpy and memset, and needs at most 120 KB of stack (measured, not proved). */
+
+/* Places the sites of a list at the greatest side and writes its sheet.
 
    LEMONCANYON_SHORTEST or more: the length of the sheet. The buffer holds the sheet from its first byte on, the same bytes that the
    program `place` writes for this list, and every byte after it is as it came.
@@ -45,6 +52,19 @@ extern "C" {
     10  the list has a sheet, and the buffer is shorter than it
    Lines are tested one after another, each for 1, 2, 3, 7, 4, 5 in this order; the first refusal counts. */
 size_t lemoncanyon_sheet(const uint8_t *list, size_t list_length, uint8_t *buffer, size_t buffer_length);
+
+/* Places the sites of a list at a given side, in half units from 1 to 20,000, or LEMONCANYON_FREE, and writes its sheet.
+
+   LEMONCANYON_SHORTEST_AT or more: the length of the sheet, which stands in the buffer as above and prints the given side. Of this sheet
+   holds: no two labels meet, no corner is crowded, and of all such choices at this side the corners are the first in list order. The list
+   that it carries gives the same sheet again at the same side. That the side is the greatest, and that nobody does better than twice
+   the printed number, hold only where the given side is the one that lemoncanyon_sheet prints for this list; the sheet is then the same.
+
+   Below LEMONCANYON_SHORTEST_AT: the number of the refusal. Every byte of the buffer is as it came. The numbers are those above, and
+     3  also where the side is neither LEMONCANYON_FREE nor from 1 to 20,000: this is tested first, before the list is read
+    12  no good choice exists at the given side: tested after 8 and before 10
+   At every side up to the one that lemoncanyon_sheet prints a good choice exists, and at none above it. */
+size_t lemoncanyon_sheet_at(const uint8_t *list, size_t list_length, uint32_t side, uint8_t *buffer, size_t buffer_length);
 
 #ifdef __cplusplus
 }

@@ -1,33 +1,52 @@
-//! A list on standard input, its sheet or its refusal on standard output: what `place` does, over the static library.
+//! A list on standard input, its sheet or its refusal on standard output: what `place` does, over the static library. With a word, which
+//! is a number of half units or `free`, the list is placed at that side.
 use std::io::{self, Read, Write};
 
 /// No sheet is shorter: a number below this is a refusal.
 const SHORTEST: usize = 18;
+/// The same at a given side.
+const SHORTEST_AT: usize = 15;
 /// No sheet is longer.
 const LONGEST: usize = 5531;
+/// Given as a side: free.
+const FREE: u32 = 4294967295;
 
 extern "C" {
-    // callers/lemoncanyon.h has the contract.
+    // callers/lemoncanyon.h has the contracts.
     fn lemoncanyon_sheet(list: *const u8, list_length: usize, buffer: *mut u8, buffer_length: usize) -> usize;
+    fn lemoncanyon_sheet_at(list: *const u8, list_length: usize, side: u32, buffer: *mut u8, buffer_length: usize) -> usize;
 }
 
-/// The sheet of a list, or the number of its refusal.
-fn sheet(list: &[u8]) -> Result<Vec<u8>, usize> {
+/// The sheet of a list, at the greatest side or at a given one, or the number of its refusal.
+fn sheet(list: &[u8], side: Option<u32>) -> Result<Vec<u8>, usize> {
     let mut buffer = vec![0; LONGEST];
+    let (from, length) = (list.as_ptr(), list.len());
+    let (to, room) = (buffer.as_mut_ptr(), buffer.len());
     // A slice is never null, and `buffer` is ours alone.
-    let number = unsafe { lemoncanyon_sheet(list.as_ptr(), list.len(), buffer.as_mut_ptr(), buffer.len()) };
-    if number < SHORTEST {
+    let (number, shortest) = match side {
+        Some(side) => (unsafe { lemoncanyon_sheet_at(from, length, side, to, room) }, SHORTEST_AT),
+        None => (unsafe { lemoncanyon_sheet(from, length, to, room) }, SHORTEST),
+    };
+    if number < shortest {
         return Err(number);
     }
     buffer.truncate(number);
     Ok(buffer)
 }
 
+/// The side that a word gives; 0, which is refused, where it gives none.
+fn side_from(word: String) -> u32 {
+    match word.as_str() {
+        "free" => FREE,
+        digits => digits.parse().ok().filter(|&side| side != FREE).unwrap_or(0),
+    }
+}
+
 fn main() -> io::Result<()> {
     let mut list = Vec::new();
     io::stdin().read_to_end(&mut list)?;
     let mut out = io::stdout();
-    match sheet(&list) {
+    match sheet(&list, std::env::args().nth(1).map(side_from)) {
         Ok(bytes) => out.write_all(&bytes)?,
         Err(number) => writeln!(out, "refused\t{number}")?,
     }

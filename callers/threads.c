@@ -1,5 +1,6 @@
-/* A list on standard input, and in the file that the first word names what `place` writes for it: makes the call in several threads at
-   once, each with a buffer of its own, over the same list. The exit status is 0 where every call gave that sheet or that refusal. */
+/* A list on standard input, and in the file that the first word names the output for it: makes a call in several threads at once, each
+   with a buffer of its own, over the same list. The call is that at a side where a second word gives one, as a number. The exit status
+   is 0 where every call gave that sheet or that refusal. */
 #include <pthread.h>
 #include <stdio.h>
 #include <stdlib.h>
@@ -13,10 +14,16 @@
 
 static uint8_t list[ROOM], output[ROOM];
 static size_t list_length, output_length;
+static int given;
+static uint32_t side;
 /* So that all threads are there when the first call is made. */
 static pthread_barrier_t all;
 
-/* What `lemoncanyon_sheet` should hand back. */
+/* What the call hands back, and what it should. */
+static size_t came_with(uint8_t *buffer, size_t length) {
+    return given ? lemoncanyon_sheet_at(list, list_length, side, buffer, length) : lemoncanyon_sheet(list, list_length, buffer, length);
+}
+
 static size_t should(void) {
     return memcmp(output, "refused\t", 8) == 0 ? strtoul((char *)output + 8, 0, 10) : output_length;
 }
@@ -24,22 +31,25 @@ static size_t should(void) {
 /* Null where every call was right. */
 static void *calls(void *wrong) {
     uint8_t buffer[LEMONCANYON_LONGEST];
+    size_t shortest = given ? LEMONCANYON_SHORTEST_AT : LEMONCANYON_SHORTEST;
     pthread_barrier_wait(&all);
     for (int i = 0; i < CALLS; i++) {
         memset(buffer, i, sizeof buffer);
-        size_t came = lemoncanyon_sheet(list, list_length, buffer, sizeof buffer);
-        if (came != should() || (came >= LEMONCANYON_SHORTEST && memcmp(buffer, output, came) != 0))
+        size_t came = came_with(buffer, sizeof buffer);
+        if (came != should() || (came >= shortest && memcmp(buffer, output, came) != 0))
             return wrong;
     }
     return 0;
 }
 
 int main(int count, char **words) {
-    FILE *file = count == 2 ? fopen(words[1], "rb") : 0;
+    FILE *file = count == 2 || count == 3 ? fopen(words[1], "rb") : 0;
     if (!file) {
-        puts("usage: threads OUTPUT-OF-PLACE < LIST");
+        puts("usage: threads OUTPUT [SIDE] < LIST");
         return 2;
     }
+    given = count == 3;
+    side = given ? strtoul(words[2], 0, 10) : 0;
     list_length = fread(list, 1, ROOM, stdin);
     output_length = fread(output, 1, ROOM, file);
 

@@ -1,30 +1,25 @@
--- The one call over bytes: what it gives for every list and every buffer, over the definitions of crate plan.
+-- The two calls over bytes: what each gives for every list and every buffer, and at every side, over the definitions of crate plan.
 -- Assumes nothing.
-use mathlib.Core.Path.{_≡_, refl, sym, _∙_, subst}
-use mathlib.Core.Bool.{Bool, true, false}
+use mathlib.Core.Path.{_≡_}
+use mathlib.Core.Bool.{true, false}
 use mathlib.Core.List.{List}
-use mathlib.Core.Option.{some, none}
 use Prim.Native.Nat.{ℕ, _≤_, _<_}
-use native.Mathlib.Omega.{arith}
-use borrow.Author.Tests.{ltb-true}
-use lib.Dec.{ltb}
-use lib.ListN.{length, take, drop}
-use lib.Seq.{take-append-seam}
+use lib.Dec.{eqb}
+use lib.ListN.{length, take}
+use Rattle.placing.specs.declared.units.Side.{Side}
+use Rattle.placing.specs.declared.units.Side.the-variants.{Number, Free}
 use Rattle.plan.specs.declared.refusal.Refusal.{Refusal}
-use Rattle.plan.specs.declared.refusal.Refusal.the-variants.{ShortBuffer}
-use Rattle.plan.specs.rules.Refusal.{numberOf, Result, accepted, refused, unless}
+use Rattle.plan.specs.rules.Refusal.{numberOf, Result, accepted, refused}
 use Rattle.plan.specs.rules.List.{Site}
-use Rattle.plan.specs.deciding.Output.{sheetOf, outputOf}
-use Rattle.plan.specs.rules.Calls.{lengthGiven, filledWith, toPlace}
+use Rattle.plan.specs.rules.Calls.{lengthGiven, filledWith, toPlace, toPlaceAt}
+use Rattle.plan.specs.deciding.Output.{sheetOf, sheetAt, outputOf, outputAt, existsAt}
 use Rattle.plan.specs.deciding.Reading.{readList}
-use Rattle.plan.specs.Demands.{Accepts, ListRefused, SheetFor}
-use Rattle.plan.specs.theorems.Tables.{number-small}
-use Rattle.plan.specs.theorems.Reading.{reads-are, read-listed}
-use Rattle.plan.specs.theorems.Sheet.{sheet-shortest, output-sheet}
-use Rattle.plan.specs.calls.Lengths.{shortestSheet}
-use Rattle.plan.specs.theorems.Output.{sheet-for, ToPlace, not-placed, is-placed, text-to-place}
+use Rattle.plan.specs.calls.Lengths.{shortestSheet, shortestSheetAt}
+use Rattle.plan.specs.Demands.{ListRefused, RefusedAt, SheetFor, SheetForAt}
 
--- The number that the call gives, and the buffer afterwards.
+-- ---- the number and the buffer
+
+-- The number that a call gives, and the buffer afterwards.
 pub record Called : Type 0 where
   pub number : ℕ
   pub buffer : List ℕ
@@ -39,57 +34,56 @@ sheetIn (accepted n) sheet buffer = record { number = n; buffer = filledWith she
 sheetIn (refused why) sheet buffer = refusal why buffer
 
 -- For what is to be placed of a list: the refusal, or the sheet of its sites.
-abbrev pub calledFor : Result (List Site) → List ℕ → Called
-calledFor (refused why) buffer = refusal why buffer
-calledFor (accepted sites) buffer = sheetIn (lengthGiven true (sheetOf sites) buffer) (sheetOf sites) buffer
+abbrev pub calledFor : (List Site → List ℕ) → Result (List Site) → List ℕ → Called
+calledFor sheet-of (refused why) buffer = refusal why buffer
+calledFor sheet-of (accepted sites) buffer = sheetIn (lengthGiven true (sheet-of sites) buffer) (sheet-of sites) buffer
 
--- For the bytes of a list.
+-- For the bytes of a list, at the side found,
 abbrev pub called : List ℕ → List ℕ → Called
-called list buffer = calledFor (toPlace (readList list)) buffer
+called list buffer = calledFor sheetOf (toPlace (readList list)) buffer
 
--- Why a list has no sheet in this buffer, with the number: it is refused, or its sheet is longer than the buffer.
-pub data CallRefused (list buffer : List ℕ) : ℕ → Type 0 where
-  refused-list : {number : ℕ} → ListRefused list number → CallRefused list buffer number
-  short-buffer : (sites : List Site) → Accepts list sites → length buffer < length (sheetOf sites) → CallRefused list buffer 10
+-- and at a given side.
+abbrev pub calledAt : Side → List ℕ → List ℕ → Called
+calledAt side list buffer = calledFor (sheetAt side) (toPlaceAt side (existsAt side) (readList list)) buffer
 
--- What the number tells a caller: from 18 on, which is the length of the shortest sheet, the buffer starts with the sheet for the list, the
--- same bytes that the placing program writes; below 18 it is a refusal's, and the buffer is as it came.
-pub record Told (list buffer : List ℕ) (number : ℕ) (after : List ℕ) : Type 0 where
-  pub sheet : shortestSheet ≤ number → SheetFor list (take number after)
-  pub same-output : shortestSheet ≤ number → take number after ≡ outputOf list
-  pub refused : number < shortestSheet → CallRefused list buffer number × (after ≡ buffer)
+-- The number that stands for free, the greatest of 32 bits; every other stands for itself.
+abbrev pub freeNumber : ℕ
+freeNumber = 4294967295
 
--- The number of a refusal is below 18.
-refusal-told : (list buffer : List ℕ) (why : Refusal) → CallRefused list buffer (numberOf why) → Told list buffer (numberOf why) buffer
-refusal-told list buffer why reason =
-    let small = number-small why in
-    record { sheet = λ long. absurd (omega arith); same-output = λ long. absurd (omega arith); refused = λ short. (reason, refl) }
+abbrev pub sideOf : ℕ → Side
+sideOf number = elim (eqb number freeNumber) [ true ↦ Free | false ↦ Number (record { 0 = number }) ]
 
--- No sheet is that short.
-sheet-told : (list buffer : List ℕ) (sites : List Site) → Accepts list sites
-    → Told list buffer (calledFor (accepted sites) buffer .number) (calledFor (accepted sites) buffer .buffer)
-sheet-told list buffer sites accepts = by-room (ltb (length buffer) (length (sheetOf sites))) refl
-  where
-    comes : Bool → Called
-    comes short = sheetIn (unless (elim short [ true ↦ some ShortBuffer | false ↦ none ]) (length (sheetOf sites))) (sheetOf sites) buffer
+-- ---- what the number tells
 
-    by-room : (short : Bool) → ltb (length buffer) (length (sheetOf sites)) ≡ short
-        → Told list buffer (comes short .number) (comes short .buffer)
-    by-room true is =
-        refusal-told list buffer ShortBuffer (short-buffer sites accepts (ltb-true (length buffer) (length (sheetOf sites)) is))
-    by-room false is =
-        let front = take-append-seam (sheetOf sites) (drop (length (sheetOf sites)) buffer) in
-        let long = sheet-shortest sites (read-listed list sites (reads-are (accepts .read))) (accepts .some-sites) in
-        record {
-          sheet = λ told. subst (SheetFor list) (sym front) (sheet-for list sites accepts);
-          same-output = λ told. front ∙ sym (output-sheet list sites (reads-are (accepts .read)) (accepts .some-sites));
-          refused = λ short. absurd (omega arith);
-        }
+-- What can come of a list: a refusal, by its number; or a sheet, no shorter than this, which is then the output of the program.
+pub record Asked : Type 1 where
+  pub Refused : ℕ → Type 0
+  pub IsSheet : List ℕ → Type 0
+  pub output : List ℕ
+  pub shortest : ℕ
 
--- So the number tells which it is.
-pub call-told : (list buffer : List ℕ) → Told list buffer (called list buffer .number) (called list buffer .buffer)
-call-told list buffer = by-sites (text-to-place list)
-  where
-    by-sites : {sites : Result (List Site)} → ToPlace list sites → Told list buffer (calledFor sites buffer .number) (calledFor sites buffer .buffer)
-    by-sites (not-placed {why} reason) = refusal-told list buffer why (refused-list reason)
-    by-sites (is-placed {sites} accepts) = sheet-told list buffer sites accepts
+-- At the side found: sheets have 18 bytes and more.
+abbrev pub atFound : List ℕ → Asked
+atFound list = record { Refused = ListRefused list; IsSheet = SheetFor list; output = outputOf list; shortest = shortestSheet }
+
+-- At a given side: they have 15 and more.
+abbrev pub atGiven : Side → List ℕ → Asked
+atGiven side list =
+    record {
+      Refused = RefusedAt side list;
+      IsSheet = SheetForAt side list;
+      output = outputAt side list;
+      shortest = shortestSheetAt;
+    }
+
+-- Why there is no sheet in this buffer, with the number: the list is refused, or its sheet is longer than the buffer.
+pub data CallRefused (asked : Asked) (buffer : List ℕ) : ℕ → Type 0 where
+  refused-list : {number : ℕ} → asked .Refused number → CallRefused asked buffer number
+  short-buffer : asked .IsSheet (asked .output) → length buffer < length (asked .output) → CallRefused asked buffer 10
+
+-- What the number tells a caller: from the length of the shortest sheet on, the buffer starts with a sheet for the list, the same bytes
+-- that are the output of the placing program; below, it is a refusal's, and the buffer is as it came.
+pub record Told (asked : Asked) (buffer : List ℕ) (number : ℕ) (after : List ℕ) : Type 0 where
+  pub sheet : asked .shortest ≤ number → asked .IsSheet (take number after)
+  pub same-output : asked .shortest ≤ number → take number after ≡ asked .output
+  pub refused : number < asked .shortest → CallRefused asked buffer number × (after ≡ buffer)

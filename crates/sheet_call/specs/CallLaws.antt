@@ -1,76 +1,222 @@
--- What placing a list and writing its plan make of the list and a buffer: the call.
+-- What placing a list and writing its plan make of the list and a buffer, and what the number then tells: at the side found and at a
+-- given side.
 -- Assumes nothing.
 use mathlib.Core.Path.{_≡_, refl, sym, ap, _∙_, subst}
-use mathlib.Core.Bool.{true}
+use mathlib.Core.Bool.{Bool, true, false, _&&_}
 use mathlib.Core.List.{List}
-use Prim.Native.Nat.{ℕ}
+use mathlib.Core.Logic.{_⊎_, inl, inr}
+use mathlib.Core.Option.{some, none}
+use Prim.Native.Nat.{ℕ, _≤_, _<_}
 use native.Mathlib.Omega.{arith}
+use borrow.Author.Tests.{ltb-true, lt-leb, ne-eqb}
+use lib.Dec.{leb, ltb}
+use lib.ListN.{length, drop}
+use lib.Seq.{take-append-seam}
+use Rattle.placing.specs.declared.units.Side.{Side}
+use Rattle.placing.specs.declared.units.Side.the-variants.{Number}
+use Rattle.placing.specs.rules.Units.{greatestSide}
+use Rattle.placing.specs.rules.Answer.{Answer, isSide, IsChosen}
+use Rattle.placing.specs.deciding.Answer.{answerOf, chosenAt}
+use Rattle.placing.specs.theorems.Given.{is-chosen-at}
+use Rattle.plan.specs.declared.plan.Plan.{Plan}
 use Rattle.plan.specs.declared.plan.Planned.{Planned}
 use Rattle.plan.specs.declared.plan.Written.{Written}
 use Rattle.plan.specs.declared.plan.Written.the-variants.{Bytes, NotWritten}
 use Rattle.plan.specs.declared.refusal.Outcome.{Outcome}
 use Rattle.plan.specs.declared.refusal.Outcome.the-variants.{Done, Refused}
 use Rattle.plan.specs.declared.refusal.Refusal.{Refusal}
-use Rattle.plan.specs.rules.Refusal.{numberOf, Result, accepted, refused}
-use Rattle.plan.specs.rules.List.{Site}
-use Rattle.plan.specs.deciding.Output.{sheetOf}
-use Rattle.plan.specs.rules.Calls.{lengthGiven, filledWith, bytesAfter, toPlace}
-use Rattle.plan.specs.deciding.Reading.{readList}
-use Rattle.plan.specs.calls.Plan.{placedPlan}
-use Rattle.plan.specs.calls.Answers.{started, handed, writtenAnswer, writtenIn, bufferAfter, listPlaced}
+use Rattle.plan.specs.declared.refusal.Refusal.the-variants.{BadNumber, ShortBuffer}
+use Rattle.plan.specs.rules.Refusal.{numberOf, Result, accepted, refused, unless}
+use Rattle.plan.specs.rules.List.{Site, placesOf}
+use Rattle.plan.specs.rules.Sheet.{sheetWith}
+use Rattle.plan.specs.rules.Calls.{lengthGiven, filledWith, bytesAfter}
+use Rattle.plan.specs.deciding.Output.{sheetOf, sheetAt, outputFor, outputOf, outputAt}
+use Rattle.plan.specs.calls.Plan.{placedWith}
+use Rattle.plan.specs.calls.Answers.{started, handed, sheetFor, lengthWritten, writtenAnswer, writtenIn, bufferAfter, listPlaced, listPlacedAt}
+use Rattle.plan.specs.theorems.Tables.{number-small}
+use Rattle.plan.specs.theorems.Reading.{reads-are, read-listed}
 use Rattle.plan.specs.theorems.Plan.{sites-placed}
-use Rattle.sheet_call.specs.Call.{Called, Told, refusal, sheetIn, calledFor, called, call-told}
+use Rattle.plan.specs.theorems.Sheet.{answer-listed, sheet-shortest, sheet-shortest-at}
+use Rattle.plan.specs.theorems.Output.{
+  sheet-for,
+  sheet-for-at,
+  ToPlace,
+  not-placed,
+  to-be-placed,
+  text-to-place,
+  ToPlaceAt,
+  not-placed-at,
+  is-placed-at,
+  text-to-place-at,
+}
+use Rattle.sheet_call.specs.Call.{
+  Called,
+  refusal,
+  sheetIn,
+  calledFor,
+  called,
+  calledAt,
+  freeNumber,
+  sideOf,
+  Asked,
+  atFound,
+  atGiven,
+  CallRefused,
+  refused-list,
+  short-buffer,
+  Told,
+}
 
--- What the contract says of a number and of a buffer afterwards.
-abbrev pub Meets : (list buffer : List ℕ) (number : ℕ) (after : List ℕ) → Type 0
-Meets list buffer number after =
-    (number ≡ called list buffer .number) × ((after ≡ called list buffer .buffer) × Told list buffer number after)
+-- ---- writing what was placed
 
--- It holds of those of the call,
-pub call-meets : (list buffer : List ℕ) {after : List ℕ} {number : ℕ} → called list buffer ≡ record { number = number; buffer = after }
-    → Meets list buffer number after
-call-meets list buffer is =
-    subst (λ (c : Called). Meets list buffer (c .number) (c .buffer)) is (refl, (refl, call-told list buffer))
+-- What comes of a list that was placed, by the outcome: the refusal, or the sheet of the plan.
+abbrev pub plannedBy : Outcome → Plan → List ℕ → Called
+plannedBy Done plan buffer = sheetIn (lengthWritten plan buffer) (sheetFor plan) buffer
+plannedBy (Refused why) plan buffer = refusal why buffer
 
--- and of a refusal's number.
-pub refusal-meets : (list buffer : List ℕ) {after : List ℕ} {number : ℕ} (why : Refusal) → called list buffer ≡ refusal why after
-    → number ≡ numberOf why → Meets list buffer number after
-refusal-meets list buffer {after} why is number-is =
-    subst (λ (n : ℕ). Meets list buffer n after) (sym number-is) (call-meets list buffer is)
-
--- The answer of a call that hands back a plan.
-abbrev outcomeOf : Planned → Outcome
-outcomeOf p = p .outcome
-
--- The list is refused.
-pub list-refuses : (list buffer : List ℕ) {done : Planned} {why : Refusal} → done ≡ listPlaced list → done .outcome ≡ Refused why
-    → called list buffer ≡ refusal why buffer
-list-refuses list buffer {done} {why} done-is is = by-sites (toPlace (readList list)) (ap outcomeOf (sym done-is) ∙ is)
-  where
-    by-sites : (sites : Result (List Site)) → handed placedPlan started sites .outcome ≡ Refused why → calledFor sites buffer ≡ refusal why buffer
-    by-sites (accepted sites) is = let z : _≡_ {A = ℕ} 0 1 = cc in absurd (omega arith)
-    by-sites (refused other) is = let same : other ≡ why = cc in ap (λ (w : Refusal). refusal w buffer) same
+abbrev pub plannedIn : Planned → List ℕ → Called
+plannedIn planned buffer = plannedBy (planned .outcome) (planned .plan) buffer
 
 -- What writing answers and leaves in the buffer, as the call gives it.
 abbrev pub asCalled : Written → List ℕ → Called
 asCalled (Bytes n) after = record { number = n; buffer = after }
 asCalled (NotWritten why) after = refusal why after
 
--- The list is placed, and the plan is written.
-pub write-calls : (list buffer : List ℕ) {done : Planned} {answer : Written} {after : List ℕ} → done ≡ listPlaced list
-    → done .outcome ≡ Done → answer ≡ writtenIn (done .plan) buffer → after ≡ bufferAfter (done .plan) buffer
-    → called list buffer ≡ asCalled answer after
-unfolding placedPlan
-write-calls list buffer done-is is answered left =
-    by-sites (toPlace (readList list)) (ap outcomeOf (sym done-is) ∙ is) ∙ sym (rw (answered, left, done-is))
+-- Where the outcome is no refusal, that is what comes.
+pub write-calls : (planned : Planned) (buffer : List ℕ) {answer : Written} {after : List ℕ} → planned .outcome ≡ Done
+    → answer ≡ writtenIn (planned .plan) buffer → after ≡ bufferAfter (planned .plan) buffer → plannedIn planned buffer ≡ asCalled answer after
+write-calls planned buffer done answered left =
+    ap (λ (o : Outcome). plannedBy o (planned .plan) buffer) done
+    ∙ by-room (lengthWritten (planned .plan) buffer) (sheetFor (planned .plan))
+    ∙ sym (rw (answered, left))
   where
     by-room : (comes : Result ℕ) (sheet : List ℕ)
         → sheetIn comes sheet buffer ≡ asCalled (writtenAnswer comes) (bytesAfter comes (filledWith sheet buffer) buffer)
     by-room (accepted n) sheet = refl
     by-room (refused why) sheet = refl
 
-    by-sites : (sites : Result (List Site)) → handed placedPlan started sites .outcome ≡ Done
-        → calledFor sites buffer
-        ≡ asCalled (writtenIn (handed placedPlan started sites .plan) buffer) (bufferAfter (handed placedPlan started sites .plan) buffer)
-    by-sites (accepted sites) is = rw (sites-placed sites) (by-room (lengthGiven true (sheetOf sites) buffer) (sheetOf sites))
-    by-sites (refused other) is = let z : _≡_ {A = ℕ} 0 1 = cc in absurd (omega arith)
+-- ---- a list, placed with an answer for its sites and written
+
+-- What is to be placed of a list: a refusal, or sites for which this answer is chosen, with their sheet.
+data Ready (asked : Asked) (answer-of : List Site → Answer) : Result (List Site) → Type 0 where
+  not-ready : {why : Refusal} → asked .Refused (numberOf why) → Ready asked answer-of (refused why)
+  ready : {sites : List Site} → IsChosen (placesOf sites) (answer-of sites) → asked .IsSheet (sheetWith sites (answer-of sites))
+      → asked .shortest ≤ length (sheetWith sites (answer-of sites)) → Ready asked answer-of (accepted sites)
+
+-- What the contract of a call says of a number and of the buffer afterwards.
+abbrev pub Meets : Asked → Called → (buffer : List ℕ) (number : ℕ) (after : List ℕ) → Type 0
+Meets asked called buffer number after = (number ≡ called .number) × ((after ≡ called .buffer) × Told asked buffer number after)
+
+-- Refusals have numbers up to 12.
+module _ (asked : Asked) (small : 12 < asked .shortest) (answer-of : List Site → Answer) (buffer : List ℕ) where
+  abbrev sheet-of : List Site → List ℕ
+  sheet-of sites = sheetWith sites (answer-of sites)
+
+  abbrev TellsOf : Called → Type 0
+  TellsOf c = Told asked buffer (c .number) (c .buffer)
+
+  -- So the number of a refusal is told as one.
+  refusal-told : (why : Refusal) → CallRefused asked buffer (numberOf why) → TellsOf (refusal why buffer)
+  refusal-told why reason =
+      let few = number-small why in
+      record { sheet = λ long. absurd (omega arith); same-output = λ long. absurd (omega arith); refused = λ short. (reason, refl) }
+
+  -- A sheet is told by its length, where there is room for it.
+  sheet-told : (sheet : List ℕ) → asked .output ≡ sheet → asked .IsSheet sheet → asked .shortest ≤ length sheet
+      → TellsOf (sheetIn (lengthGiven true sheet buffer) sheet buffer)
+  sheet-told sheet output-is is-sheet long = by-room (ltb (length buffer) (length sheet)) refl
+    where
+      by-room : (short : Bool) → ltb (length buffer) (length sheet) ≡ short
+          → TellsOf (sheetIn (unless (elim short [ true ↦ some ShortBuffer | false ↦ none ]) (length sheet)) sheet buffer)
+      by-room true is =
+          refusal-told ShortBuffer
+          (rw output-is (short-buffer is-sheet (ltb-true (length buffer) (length sheet) is)))
+      by-room false is =
+          let front = take-append-seam sheet (drop (length sheet) buffer) in
+          record {
+            sheet = λ told. subst (asked .IsSheet) (sym front) is-sheet;
+            same-output = λ told. front ∙ sym output-is;
+            refused = λ short. absurd (omega arith);
+          }
+
+  -- The plan of sites that are placed with what is chosen for them has that sheet.
+  plan-sheet : (sites : List Site) → IsChosen (placesOf sites) (answer-of sites) → sheetFor (placedWith sites (answer-of sites)) ≡ sheet-of sites
+  unfolding sheetAt placedWith
+  plan-sheet sites chosen =
+      ap (λ (l : List Site). sheetWith l (chosenAt (answer-of sites .side) (placesOf l))) (sites-placed sites (answer-of sites))
+      ∙ ap (sheetWith sites) (sym (is-chosen-at chosen))
+
+  -- So what comes of writing it is the call.
+  planned-calls : {placing : Result (List Site)} → Ready asked answer-of placing
+      → plannedIn (handed (λ sites. placedWith sites (answer-of sites)) started placing) buffer ≡ calledFor sheet-of placing buffer
+  unfolding placedWith
+  planned-calls (not-ready reason) = refl
+  planned-calls (ready {sites} chosen is-sheet long) =
+      ap (λ (sheet : List ℕ). sheetIn (lengthGiven true sheet buffer) sheet buffer) (plan-sheet sites chosen)
+
+  calls-told : {placing : Result (List Site)} → asked .output ≡ outputFor sheet-of placing → Ready asked answer-of placing
+      → TellsOf (calledFor sheet-of placing buffer)
+  calls-told output-is (not-ready {why} reason) = refusal-told why (refused-list reason)
+  calls-told output-is (ready {sites} chosen is-sheet long) = sheet-told (sheet-of sites) output-is is-sheet long
+
+  -- It meets the contract.
+  planned-meets : {placing : Result (List Site)} {done : Planned} {number : ℕ} {after : List ℕ} → asked .output ≡ outputFor sheet-of placing
+      → Ready asked answer-of placing → done ≡ handed (λ sites. placedWith sites (answer-of sites)) started placing
+      → number ≡ plannedIn done buffer .number → after ≡ plannedIn done buffer .buffer
+      → Meets asked (calledFor sheet-of placing buffer) buffer number after
+  planned-meets {placing} output-is is-ready done-is number-is after-is =
+      let is = ap (λ (p : Planned). plannedIn p buffer) done-is ∙ planned-calls is-ready in
+      let number-so = number-is ∙ ap (λ (c : Called). c .number) is in
+      let after-so = after-is ∙ ap (λ (c : Called). c .buffer) is in
+      (number-so, (after-so, rw (number-so, after-so) (calls-told output-is is-ready)))
+
+-- ---- the two calls
+
+-- At the side found,
+pub call-meets : (list buffer : List ℕ) {done : Planned} {number : ℕ} {after : List ℕ} → done ≡ listPlaced list
+    → number ≡ plannedIn done buffer .number → after ≡ plannedIn done buffer .buffer → Meets (atFound list) (called list buffer) buffer number after
+unfolding sheetOf outputOf
+call-meets list buffer =
+    planned-meets (atFound list) (omega arith) (λ sites. answerOf (placesOf sites)) buffer refl (by-sites (text-to-place list))
+  where
+    by-sites : {placing : Result (List Site)} → ToPlace list placing → Ready (atFound list) (λ sites. answerOf (placesOf sites)) placing
+    by-sites (not-placed reason) = not-ready reason
+    by-sites (to-be-placed {sites} accepts) =
+        let listed = read-listed list sites (reads-are (accepts .read)) in
+        ready (answer-listed sites listed) (sheet-for list sites accepts) (sheet-shortest sites listed (accepts .some-sites))
+
+-- and at a given side.
+pub call-meets-at : (side : Side) (list buffer : List ℕ) {done : Planned} {number : ℕ} {after : List ℕ} → done ≡ listPlacedAt side list
+    → number ≡ plannedIn done buffer .number → after ≡ plannedIn done buffer .buffer
+    → Meets (atGiven side list) (calledAt side list buffer) buffer number after
+unfolding sheetAt outputAt chosenAt
+call-meets-at side list buffer =
+    planned-meets (atGiven side list) (omega arith) (λ sites. chosenAt side (placesOf sites)) buffer refl (by-sites (text-to-place-at side list))
+  where
+    by-sites : {placing : Result (List Site)} → ToPlaceAt side list placing
+        → Ready (atGiven side list) (λ sites. chosenAt side (placesOf sites)) placing
+    by-sites (not-placed-at reason) = not-ready reason
+    by-sites (is-placed-at {sites} accepts chosen) =
+        let listed = read-listed list sites (reads-are (accepts .read)) in
+        ready chosen (sheet-for-at list sites accepts chosen) (sheet-shortest-at sites listed (accepts .some-sites) chosen)
+
+-- ---- the numbers that stand for no side
+
+-- A side outside the range is refused with 3, whatever the list.
+side-refused : (side : Side) (list buffer : List ℕ) → isSide side ≡ false → calledAt side list buffer ≡ refusal BadNumber buffer
+side-refused side list buffer outside = rw outside
+
+-- So are the numbers below 1 and above 20,000, but for that of free.
+pub no-side : (number : ℕ) (list buffer : List ℕ) → (number ≡ freeNumber → ⊥) → (number < 1) ⊎ (greatestSide < number)
+    → calledAt (sideOf number) list buffer ≡ refusal BadNumber buffer
+no-side number list buffer not-free outside =
+    side-refused (sideOf number) list buffer
+    (rw (ne-eqb number freeNumber not-free, sideOf) (is-outside outside))
+  where
+    by-least : (least : Bool) → (least && false) ≡ false
+    by-least true = refl
+    by-least false = refl
+
+    is-outside : (number < 1) ⊎ (greatestSide < number) → isSide (Number (record { 0 = number })) ≡ false
+    is-outside (inl below) = rw (lt-leb 1 number below)
+    is-outside (inr above) = rw (lt-leb number greatestSide above) (by-least (leb 1 number))

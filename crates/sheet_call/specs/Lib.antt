@@ -1,3 +1,3 @@
--- The call for programs in C and Rust.
+-- The calls for programs in C and Rust.
 pub mod Call
 pub mod CallLaws

@@ -12,8 +12,13 @@ use borrow.Author.Count.{below-more}
 use lib.ListN.{length, take}
 use lib.Seq.{getD-take, length-take-le}
 use Rattle.placing.specs.declared.units.Place.{Place}
-use Rattle.placing.specs.rules.Units.{Axis, along, Distinct, InRange, OnPlan, siteAt, nowhere}
+use Rattle.placing.specs.declared.units.Side.{Side}
+use Rattle.placing.specs.rules.Units.{Axis, along, Distinct, InRange, OnPlan, siteAt, nowhere, freeSide}
+use Rattle.placing.specs.rules.Answer.{judgedAt}
+use Rattle.placing.specs.deciding.Answer.{answerOf}
 use Rattle.placing.specs.calls.Placing.{MayPlace}
+use Rattle.placing.specs.theorems.Answer.{answer-is}
+use Rattle.placing.specs.theorems.Given.{judged-range, answer-chosen}
 
 -- A yes means that P holds.
 pub record Where (yes : Bool) (P : Type 0) : Type 0 where
@@ -112,3 +117,8 @@ ready-places {n} ready room =
           let wide : n * n ≤ 240 * n = mul-le-mul-right n (ready .few) in
           omega (arith, ready .few);
     }
+
+-- The side found is one at which corners may be chosen.
+pub found-judged : {n : ℕ} {sites : List Place} {side : Side} → Ready n sites → side ≡ answerOf (take n sites) .side → judgedAt side ≤ freeSide
+found-judged {n} {sites} ready is =
+    rw is (judged-range (answerOf (take n sites) .side) (answer-chosen (answer-is (take n sites) (ready .distinct)) .given) .1)

@@ -1,5 +1,6 @@
 // Places document 01's lists that are marked P, and some at the limits, and prints a line for each: the side, then the corners
-// of the first sites. The last list is wrong, and that is to be noticed: two of its sites stand at one place.
+// of the first sites. Then some at given sides, the last of them too large. The last list is wrong, and that is to be noticed: two of
+// its sites stand at one place.
 mod lists;
 mod print;
 mod ready;
@@ -7,6 +8,7 @@ mod ready;
 use crate::lists::column;
 use crate::lists::grid;
 use crate::lists::line;
+use crate::print::print_chosen;
 use crate::print::print_placed;
 
 fn main() {
@@ -20,5 +22,9 @@ fn main() {
     print_placed(line(0, 0, 10_000, 10_000, 2), 2);
     print_placed(line(0, 0, 1, 0, 240), 240);
     print_placed(grid(15, 240), 240);
+    print_chosen(column(), 3, 4);
+    print_chosen(column(), 3, 5);
+    print_chosen(line(0, 0, 1, 1, 5), 5, 3);
+    print_chosen(column(), 3, 7);
     print_placed(line(5, 5, 0, 0, 2), 2);
 }

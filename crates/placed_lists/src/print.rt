@@ -1,9 +1,15 @@
 // Placing a list and printing its line.
 use crate::ready::ready;
-use placing::place::place_labels;
+use placing::choice::Choice;
+use placing::place::choose_corners;
+use placing::place::find_side;
+use placing::units::HalfUnits;
 use placing::units::Place;
 use placing::units::Side;
 ghost use Prim.Native.Nat.{_≤_};
+ghost use Rattle.placing.specs.rules.Units.{freeSide};
+ghost use Rattle.placing.specs.rules.Answer.{judgedAt};
+ghost use Rattle.placed_lists.specs.Ready.{Ready};
 
 // A side is printed as a number, or as the word free.
 fn print_side(side: Side) {
@@ -38,17 +44,53 @@ fn shown(n: usize) -> usize
     if n < 9 { n } else { 9 }
 }
 
-// Places the first `n` of these sites and prints their line.
-pub fn print_placed(sites: [Place; 240], n: usize) {
-    if !ready(sites, n) {
-        io::write_all(1, b"not to be placed\n");
-        return;
-    }
+// The greatest side of the first `n` of these sites.
+fn found(sites: [Place; 240], n: usize) -> Side
+    requires { ⌜ Ready n sites ⌝ }
+    ensures { λ r. ⌜ judgedAt r ≤ freeSide ⌝ }
+{
     let mut table = [0u8; 57600];
-    let placed = place_labels(sites, n, &mut table);
-    let side = placed.side;
-    let corners = placed.corners;
+    find_side(sites, n, &mut table)
+}
+
+// Their first good choice at this side.
+fn chosen(sites: [Place; 240], n: usize, side: Side) -> Choice
+    requires { ⌜ Ready n sites × (judgedAt side ≤ freeSide) ⌝ }
+{
+    let mut table = [0u8; 57600];
+    choose_corners(sites, n, side, &mut table)
+}
+
+// Prints a side and the first corners of the choice at it.
+fn print_line(side: Side, choice: Choice, n: usize) {
     print_side(side);
-    print_corners(corners, shown(n));
+    let corners = choice.corners;
+    if choice.exists {
+        print_corners(corners, shown(n));
+    } else {
+        io::write_all(1, b"\tno good choice");
+    }
     io::write_all(1, b"\n");
+}
+
+// Places the first `n` of these sites at the side found and prints their line.
+pub fn print_placed(sites: [Place; 240], n: usize) {
+    if ready(sites, n) {
+        let side = found(sites, n);
+        print_line(side, chosen(sites, n, side), n);
+    } else {
+        io::write_all(1, b"not to be placed\n");
+    }
+}
+
+// The same at a given side.
+pub fn print_chosen(sites: [Place; 240], n: usize, h: u32)
+    requires { ⌜ h ≤ 20000 ⌝ }
+{
+    if ready(sites, n) {
+        let side = Side::Number(HalfUnits(h));
+        print_line(side, chosen(sites, n, side), n);
+    } else {
+        io::write_all(1, b"not to be placed\n");
+    }
 }

@@ -9,16 +9,25 @@ use crate::limits::limit;
 use crate::names::put_names;
 use crate::question::Call;
 use crate::question::Question;
+use crate::words::first;
+use crate::words::from;
+use placing::units::HalfUnits;
+use placing::units::Side;
+use plan::calls::choose_at;
 use plan::calls::corner;
 use plan::calls::count;
 use plan::calls::enter;
-use plan::calls::place;
+use plan::calls::find;
 use plan::calls::side;
 use plan::limits::TextLimits;
 use plan::list::read;
+use plan::number::side_from;
 use plan::output::output;
+use plan::output::output_at;
+use plan::plan::AskedSide;
 use plan::plan::Plan;
 use plan::plan::Planned;
+use plan::refusal::Outcome;
 use plan::sheet::write;
 use test_text::put_bytes;
 use test_text::within;
@@ -65,6 +74,53 @@ fn lend(room: &mut [u8]) {
     }
 }
 
+// Finds the plan's side with a work table of this many bytes.
+fn found(plan: Plan, bytes: usize, room: &mut [u8], said: &mut [u8]) -> State
+    requires { ⌜ Valid plan ⌝ }
+    ensures { λ r. ⌜ Valid (r .plan) ⌝ }
+{
+    lend(room);
+    let n = within(bytes, room);
+    State {
+        plan,
+        lent: n,
+        said: put_side(said, find(plan, &mut room[..n])),
+    }
+}
+
+// Chooses at a side with a work table of this many bytes.
+fn chosen(plan: Plan, side: Side, bytes: usize, room: &mut [u8], said: &mut [u8]) -> State
+    requires { ⌜ Valid plan ⌝ }
+    ensures { λ r. ⌜ Valid (r .plan) ⌝ }
+{
+    lend(room);
+    let n = within(bytes, room);
+    after(choose_at(plan, side, &mut room[..n]), n, said)
+}
+
+// A number as a side, in range or not.
+fn numbered(number: u64) -> Side {
+    if number < 4_294_967_296 {
+        return Side::Number(HalfUnits(number as u32));
+    }
+    Side::Number(HalfUnits(4_294_967_295))
+}
+
+// Places the plan: finds its side and chooses there, with one work table.
+fn place(plan: Plan, table: &mut [u8]) -> Planned
+    requires { ⌜ Valid plan ⌝ }
+    ensures { λ r. ⌜ Valid (r .plan) ⌝ }
+{
+    let asked = find(plan, table);
+    match asked {
+        AskedSide::SideIs(side) => choose_at(plan, side, table),
+        AskedSide::NoSide(why) => Planned {
+            outcome: Outcome::Refused(why),
+            plan,
+        },
+    }
+}
+
 // Places the plan with a work table of this many bytes.
 fn placed(plan: Plan, bytes: usize, room: &mut [u8], said: &mut [u8]) -> State
     requires { ⌜ Valid plan ⌝ }
@@ -96,11 +152,25 @@ fn put_output(text: &[u8], said: &mut [u8]) -> usize {
     put_quoted(said, &buffer[..n])
 }
 
+// The whole output for a text at a side.
+fn put_output_at(text: &[u8], side: Side, said: &mut [u8]) -> usize {
+    let mut buffer = [0u8; TextLimits::SHEET];
+    let n = output_at(text, side, &mut buffer);
+    put_quoted(said, &buffer[..n])
+}
+
+// The same where the side's word and a space stand in front of the text.
+fn put_output_behind(text: &[u8], said: &mut [u8]) -> usize {
+    let space = first(text, b' ');
+    put_output_at(from(text, space + 1), side_from(&text[..space]), said)
+}
+
 // The answer to a question that no plan is asked.
 fn put_other(question: Question, text: &[u8], said: &mut [u8]) -> usize {
     let call = question.call;
     match call {
         Call::Output => put_output(text, said),
+        Call::OutputAt => put_output_behind(text, said),
         Call::Limit => put_number(said, limit(text)),
         Call::Names => put_names(said),
         _ => put_bytes(said, 0, b"no such call"),
@@ -140,6 +210,9 @@ pub fn answered(
     match call {
         Call::Enter => after(enter(plan, text, question.a, question.b), lent, said),
         Call::Read => after(read(text), lent, said),
+        Call::Find => found(plan, question.a as usize, room, said),
+        Call::Choose => chosen(plan, side_from(text), question.a as usize, room, said),
+        Call::ChooseNumber => chosen(plan, numbered(question.a), question.b as usize, room, said),
         Call::Place => placed(plan, question.a as usize, room, said),
         Call::Write => written(plan, question.a as usize, room, said),
         _ => State {

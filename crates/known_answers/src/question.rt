@@ -1,5 +1,6 @@
-// A question: a call, a text in quotes where it takes one, and up to two numbers. Without quotes a text is that many bytes of the
-// lines of too many sites.
+// A question: a call, a text in quotes where it takes one, and up to two numbers. Without quotes a text is as many bytes as the first
+// number says of the lines of too many sites. `find` and `place` take the size of a work table, `choose` the word of a side and that
+// size, `choose-number` the side as a number, in range or not. The text of `output-at` has the word of a side and a space in front.
 use crate::words::first;
 use crate::words::from;
 use crate::words::number_in;
@@ -8,12 +9,16 @@ use crate::words::unquoted;
 pub enum Call {
     Enter,
     Read,
+    Find,
+    Choose,
+    ChooseNumber,
     Place,
     Side,
     Corner,
     Count,
     Write,
     Output,
+    OutputAt,
     Lent,
     Limit,
     Names,
@@ -28,12 +33,38 @@ pub struct Question {
     pub b: u64,
 }
 
+// The questions that no plan is asked.
+fn other_call(word: &[u8]) -> Call {
+    if check::same(word, b"output") {
+        return Call::Output;
+    }
+    if check::same(word, b"output-at") {
+        return Call::OutputAt;
+    }
+    if check::same(word, b"limit") {
+        return Call::Limit;
+    }
+    if check::same(word, b"names") {
+        return Call::Names;
+    }
+    Call::Unknown
+}
+
 fn call_of(word: &[u8]) -> Call {
     if check::same(word, b"enter") {
         return Call::Enter;
     }
     if check::same(word, b"read") {
         return Call::Read;
+    }
+    if check::same(word, b"find") {
+        return Call::Find;
+    }
+    if check::same(word, b"choose") {
+        return Call::Choose;
+    }
+    if check::same(word, b"choose-number") {
+        return Call::ChooseNumber;
     }
     if check::same(word, b"place") {
         return Call::Place;
@@ -50,19 +81,21 @@ fn call_of(word: &[u8]) -> Call {
     if check::same(word, b"write") {
         return Call::Write;
     }
-    if check::same(word, b"output") {
-        return Call::Output;
-    }
     if check::same(word, b"lent") {
         return Call::Lent;
     }
-    if check::same(word, b"limit") {
-        return Call::Limit;
+    other_call(word)
+}
+
+// A question with its numbers, parted by a space.
+fn with_numbers(call: Call, len: usize, numbers: &[u8]) -> Question {
+    let space = first(numbers, b' ');
+    Question {
+        call,
+        len,
+        a: number_in(numbers),
+        b: number_in(from(numbers, space + 1)),
     }
-    if check::same(word, b"names") {
-        return Call::Names;
-    }
-    Call::Unknown
 }
 
 // Takes a question apart. A text in quotes is put at the front of the array.
@@ -71,23 +104,11 @@ pub fn question_in(words: &[u8], text: &mut [u8]) -> Question {
     let call = call_of(&words[..end]);
     let quote = first(words, b'"');
     if quote == words.len() {
-        let number = number_in(from(words, end + 1));
-        return Question {
-            call,
-            len: number as usize,
-            a: number,
-            b: 0,
-        };
+        let numbers = from(words, end + 1);
+        return with_numbers(call, number_in(numbers) as usize, numbers);
     }
     let quoted = from(words, quote + 1);
     let close = first(quoted, b'"');
     let len = unquoted(text, &quoted[..close]);
-    let numbers = from(quoted, close + 2);
-    let space = first(numbers, b' ');
-    Question {
-        call,
-        len,
-        a: number_in(numbers),
-        b: number_in(from(numbers, space + 1)),
-    }
+    with_numbers(call, len, from(quoted, close + 2))
 }

@@ -1,7 +1,9 @@
 -- `known_answers::calls::put_output` is safe: no output is longer than the buffer. Assumes nothing.
 use borrow.Author.Needs.{needs}
 use mathlib.Core.Path.{sym}
+use denote.Ref.{now}
 use lib.Seq.{length-take-le}
+use Rattle.plan.specs.deciding.Output.{outputOf}
 use Rattle.plan.specs.theorems.Output.{output-within}
 use Rattle.known_answers.proofs.calls.put_output.Statement.{statement}
 use Rattle.known_answers.proofs.calls.put_output.Tie as tie
@@ -10,7 +12,9 @@ output-requires : tie.Need-output-requires
 output-requires c κs = search needs
 
 array-share-prefix-buffer : tie.Need-array-share-prefix-buffer
-array-share-prefix-buffer c = output-within _ _ (c .before .output .ensures .0) (c .before .output .ensures .1 .0)
+array-share-prefix-buffer c =
+    let start = c .before .before .before .before .before in
+    output-within (outputOf (now (start .args .text))) _ (c .before .output .ensures .0) (c .before .output .ensures .1 .0)
 
 slice-aggregate-put-quoted : tie.Need-slice-aggregate-put-quoted
 slice-aggregate-put-quoted c = sym (length-take-le _ _ (array-share-prefix-buffer (c .before)))

@@ -9,6 +9,9 @@ pub struct Counts {
     pub in_one_row: u64,
     pub above_twice: u64,
     pub differences: u64,
+    pub given: u64,
+    pub without: u64,
+    pub differences_at: u64,
 }
 
 impl Counts {
@@ -21,6 +24,9 @@ impl Counts {
             in_one_row: 0,
             above_twice: 0,
             differences: 0,
+            given: 0,
+            without: 0,
+            differences_at: 0,
         }
     }
 }
@@ -62,4 +68,7 @@ pub fn print_counts(counts: Counts) {
         b" with a choice that holds at 2 x side + 1\n",
     );
     print_count(counts.differences, b" differences\n");
+    print_count(counts.given, b" given sides\n");
+    print_count(counts.without, b" without a good choice\n");
+    print_count(counts.differences_at, b" differences there\n");
 }

@@ -19,11 +19,11 @@ struct Choice {
     corners: [u8; 7],
 }
 
-fn greater(a: u64, b: u64) -> u64 {
+pub fn greater(a: u64, b: u64) -> u64 {
     if a < b { b } else { a }
 }
 
-fn lesser(a: u64, b: u64) -> u64
+pub fn lesser(a: u64, b: u64) -> u64
     ensures { λ r. ⌜ r ≤ b ⌝ }
 {
     if a < b { a } else { b }
@@ -55,7 +55,7 @@ fn rise(from: u32, to: u32) -> u64 {
 }
 
 // Same direction: two labels overlap along the axis exactly when h > 2 × |d|.
-fn same_way(a: u32, b: u32) -> u64 {
+pub fn same_way(a: u32, b: u32) -> u64 {
     if a < b {
         2 * ((b - a) as u64)
     } else {
@@ -203,6 +203,23 @@ pub fn enumerate(sites: Sites) -> Answer
     Answer {
         side: lesser(best.limit, FREE),
         corners: corners,
+    }
+}
+
+// The answer at a given side: the first list of corners that is good there.
+pub fn enumerate_at(sites: Sites, side: u64) -> Answer
+    requires { ⌜ (sites .n ≤ 7) × (1 ≤ side) ⌝ }
+{
+    let end = choices(sites.n);
+    for number in 0..end {
+        let corners = nth_corners(number, sites.n);
+        if side <= choice_limit(sites, corners, true, side - 1) {
+            return Answer { side, corners };
+        }
+    }
+    Answer {
+        side,
+        corners: [0u8; 7],
     }
 }
 

@@ -1,7 +1,8 @@
-// Random small lists, each answered by the product and by enumeration. The sheets are compared, and the counts printed; then the same
-// with answers that are meant to come out wrong.
+// Random small lists, each answered by the product and by enumeration, at the side found and at given sides. The sheets are compared,
+// and the counts printed; then the same with answers that are meant to come out wrong.
 mod counts;
 mod enumerate;
+mod given;
 mod lists;
 mod product;
 mod random;

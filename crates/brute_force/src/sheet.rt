@@ -3,6 +3,7 @@ use crate::sites::Answer;
 use crate::sites::FREE;
 use crate::sites::Place;
 use crate::sites::Sites;
+use crate::sites::is_none;
 use crate::text::put_site;
 use test_text::put;
 use test_text::put_bytes;
@@ -14,7 +15,7 @@ ghost use Rattle.io.specs.Counts.{Counts};
 // How many bytes a sheet of seven sites fits into: its first line takes at most 11, each other 16.
 pub const SHEET_BYTES: usize = 123;
 
-fn put_size(out: &mut [u8], at: usize, side: u64) -> usize {
+pub fn put_size(out: &mut [u8], at: usize, side: u64) -> usize {
     if side == FREE {
         put_bytes(out, at, b"free")
     } else {
@@ -55,4 +56,14 @@ pub fn put_sheet(out: &mut [u8], sites: Sites, answer: Answer) -> usize
         at = put_line(out, at, i, places[i], corners[i]);
     }
     at
+}
+
+// The same for an answer at a given side: the refusal where no choice is good.
+pub fn put_answer(out: &mut [u8], sites: Sites, answer: Answer) -> usize
+    requires { ⌜ sites .n ≤ 7 ⌝ }
+{
+    if is_none(answer) {
+        return put_bytes(out, 0, b"refused\t12\n");
+    }
+    put_sheet(out, sites, answer)
 }

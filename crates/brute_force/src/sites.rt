@@ -15,10 +15,16 @@ pub struct Sites {
 // The side that stands for free: a choice that is good there is good at every side.
 pub const FREE: u64 = 20_001;
 
-// A side from 1 to 20,000 or FREE, and a corner for each site.
+// A side from 1 to 20,000 or FREE, and a corner for each site; corners of 0 where no choice is good at the side.
 pub struct Answer {
     pub side: u64,
     pub corners: [u8; 7],
+}
+
+// No choice is good at the side of this answer.
+pub fn is_none(answer: Answer) -> bool {
+    let corners = answer.corners;
+    corners[0] == 0
 }
 
 fn same_place(p: Place, q: Place) -> bool {

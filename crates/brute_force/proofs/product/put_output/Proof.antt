@@ -1,8 +1,9 @@
 -- `product::put_output` gives a length within the array. Assumes nothing.
 use borrow.Author.Needs.{needs}
-use mathlib.Core.Path.{sym}
+use mathlib.Core.Path.{sym, ap}
+use native.Mathlib.Omega.{arith}
+use lib.ListN.{length, length-append}
 use lib.Seq.{length-take-le}
-use Rattle.plan.specs.theorems.Output.{output-within}
 use Rattle.brute_force.proofs.product.put_output.Statement.{statement}
 use Rattle.brute_force.proofs.product.put_output.Tie as tie
 
@@ -23,8 +24,9 @@ output-requires c κs = search needs
 
 returns : tie.Need-returns
 returns c =
-    let within = output-within _ _ (c .output .ensures .0) (c .output .ensures .1 .0) in
-    (within, sym (length-take-le _ _ within))
+    let size = c .output .ensures .0 in
+    let filled = simp length-append at (ap length (c .output .ensures .1 .0)) in
+    (omega arith, sym (length-take-le _ _ (omega arith)))
 
 pub put-output-spec : {M : Type 1} → statement M
 put-output-spec =

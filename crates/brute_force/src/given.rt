@@ -1,0 +1,51 @@
+// The sides to give for a list: some around the distance of its first two sites, some around its own side, and free. Where two labels
+// begin to meet, or a label to crowd a site, another choice may be the first.
+use crate::enumerate::greater;
+use crate::enumerate::lesser;
+use crate::enumerate::same_way;
+use crate::sites::FREE;
+use crate::sites::Sites;
+ghost use Prim.Native.Nat.{_≤_};
+
+// How many there are.
+pub const SIDES: u64 = 7;
+
+// Twice the distance of the first two sites, at most 20,000.
+fn twice_apart(sites: Sites) -> u64
+    ensures { λ r. ⌜ r ≤ 20000 ⌝ }
+{
+    let places = sites.places;
+    let a = places[0];
+    let b = places[1];
+    lesser(greater(same_way(a.x, b.x), same_way(a.y, b.y)), 20_000)
+}
+
+// The nearest side from 1 to 20,000, or FREE.
+fn in_range(h: u64) -> u64
+    ensures { λ r. ⌜ (1 ≤ r) × (r ≤ 20001) ⌝ }
+{
+    if h == 0 {
+        return 1;
+    }
+    if h > FREE {
+        return FREE;
+    }
+    h
+}
+
+// Number `k` of them, for a list with this side.
+pub fn given(sites: Sites, side: u64, k: u64) -> u64
+    requires { ⌜ side ≤ 20001 ⌝ }
+    ensures { λ r. ⌜ (1 ≤ r) × (r ≤ 20001) ⌝ }
+{
+    let twice = twice_apart(sites);
+    match k {
+        0 => in_range(twice / 2),
+        1 => in_range(twice / 2 + 1),
+        2 => in_range(twice),
+        3 => in_range(twice + 1),
+        4 => in_range(side),
+        5 => in_range(side + 1),
+        _ => FREE,
+    }
+}

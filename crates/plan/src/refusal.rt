@@ -23,7 +23,7 @@ pub enum Outcome {
     Refused(Refusal),
 }
 
-// Document 01's number of a refusal.
+// The number of a refusal.
 pub fn number_of(refusal: Refusal) -> u8
     ensures { λ r. ⌜ r ≡ numberOf refusal ⌝ }
 {

@@ -3,3 +3,4 @@ pub mod Input
 pub mod InputLaws
 pub mod Reply
 pub mod ReplyLaws
+pub mod Asked

@@ -1,5 +1,7 @@
 // What the program is asked for by the word behind its name.
 use placing::units::Side;
+ghost use mathlib.Core.Path.{_≡_};
+ghost use Rattle.place.specs.Asked.{taskOf};
 use plan::number::side_from;
 
 // At which side the list is placed: the one that is found, or a given one.
@@ -14,8 +16,10 @@ pub(crate) enum Task {
     Usage,
 }
 
-// The word free asks for that side, and so does a word that starts with a digit, be it a side or not; other words ask for none.
-fn word_asked(word: &[u8], first: u8) -> Task {
+// The word free, and a word that starts with a digit, ask for the side that they write, be it one or not; other words ask for none.
+fn word_asked(word: &[u8], first: u8) -> Task
+    ensures { λ r. ⌜ r ≡ taskOf (now (word .entry)) first ⌝ }
+{
     let side = side_from(word);
     if let Side::Free = side {
         return Task::Place(At::Given(side));
@@ -29,7 +33,7 @@ fn word_asked(word: &[u8], first: u8) -> Task {
     Task::Place(At::Given(side))
 }
 
-// Without a word the side is found. A word that does not fit the array is longer than every side: no byte of it is read.
+// Without a word the side is found. Of a word that does not fit the array, which is longer than every side, the first byte alone is looked at.
 pub(crate) fn asked() -> Task {
     // The first is the program's own name.
     let count = os::arg_count();

@@ -25,7 +25,7 @@ pub struct Choice {
     pub corners: [u8; Limits::SITES],
 }
 
-// The corners of a good choice, where there is one.
+// The corners of a good choice, where there is one; past the last site they are what the walk left.
 pub(crate) struct Chosen {
     pub ok: bool,
     pub corners: [u8; Limits::SITES],

@@ -12,7 +12,7 @@ ghost use mathlib.Core.List.{_++_};
 ghost use Prim.Native.Nat.{_*_, _≤_};
 ghost use lib.ListN.{length, take, drop, replicate};
 ghost use Rattle.placing.specs.rules.Units.{freeSide};
-ghost use Rattle.placing.specs.rules.Answer.{judgedAt};
+ghost use Rattle.placing.specs.rules.Answer.{judgedAt, sideNumber};
 ghost use Rattle.placing.specs.calls.Placing.{choiceAs, MayPlace};
 ghost use Rattle.placing.specs.deciding.Answer.{answerOf, firstGood};
 
@@ -31,6 +31,7 @@ pub fn find_side(sites: [Place; Limits::SITES], n: usize, table: &mut [u8]) -> S
     requires { ⌜ MayPlace n sites (now table) ⌝ }
     ensures side { λ r. ⌜ r ≡ answerOf (take n sites) .side ⌝ }
     ensures table { λ r. ⌜ now (table .exit) ≡ replicate (n * n) 0 ++ drop (n * n) (now (table .entry)) ⌝ }
+    ensures value { λ r. ⌜ sideNumber r ≡ sideNumber (answerOf (take n sites) .side) ⌝ }
 {
     let at = coordinates_of(sites, n);
     let xs = at.xs;

@@ -18,7 +18,7 @@ pub struct Place {
     pub y: Units,
 }
 
-// The side of an answer: a whole number of half units, or free, where no side is too large.
+// A side, found or given: a whole number of half units, or free, where no side is too large.
 pub enum Side {
     Number(HalfUnits),
     Free,

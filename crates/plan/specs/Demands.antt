@@ -117,7 +117,7 @@ pub data ListTold (text : List ℕ) (r : Planned) : Type 0 where
   list-refused : ListRefused text (outcomeNumber (r .outcome)) → r .plan ≡ started → ListTold text r
   list-placed : (sites : List Site) → Accepts text sites → outcomeNumber (r .outcome) ≡ 0 → r .plan ≡ placedPlan sites → ListTold text r
 
--- L1: the same at a given side. 3 is tested first, before the list is read; 12 after 8.
+-- L1: the same at a given side. 3 is tested first, before any line of the list; 12 after 8.
 pub data RefusedAt (side : Side) (text : List ℕ) : ℕ → Type 0 where
   out-of-range : isSide side ≡ false → RefusedAt side text 3
   refused-list : isSide side ≡ true → {number : ℕ} → ListRefused text number → RefusedAt side text number

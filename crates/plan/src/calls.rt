@@ -1,4 +1,5 @@
-// The calls of document 01 on a plan, with placing split in two as document 02 asks. A call takes the plan and hands back the one after it, where that can be another.
+// The calls of document 01 on a plan, with placing split in two as document 02 asks. A call takes the plan and hands back the one after
+// it, where that can be another.
 use crate::name::name_from;
 use crate::number::coordinate_at;
 use crate::number::place_at;

@@ -9,10 +9,11 @@ ghost use mathlib.Core.Path.{_≡_};
 ghost use mathlib.Core.Option.{some};
 ghost use mathlib.Core.List.{[], _∷_};
 ghost use Prim.Native.Nat.{_≤_};
+ghost use Rattle.placing.specs.rules.Answer.{sideNumber};
 ghost use Rattle.placing.specs.rules.Units.{greatestSide};
 ghost use Rattle.plan.specs.rules.Text.{numberIn, digitsAfter};
 ghost use Rattle.plan.specs.rules.Sheet.{sideIn};
-ghost use Rattle.plan.specs.calls.Given.{sideGivenBy};
+ghost use Rattle.plan.specs.calls.Given.{sideByWord};
 ghost use Rattle.plan.specs.code.NumberRead.{numberRead};
 ghost use Rattle.plan.specs.code.Coordinate.{coordinateRead, placeRead};
 
@@ -129,9 +130,10 @@ pub(crate) fn coordinate_from(text: &[u8]) -> Coordinate
     Coordinate::At(Units(n))
 }
 
-// The side that a word gives. Where it is no side in range that is the number 0, which every call refuses.
+// The side that a word gives. Where it is no side in range that is the number 0, which choosing refuses.
 pub fn side_from(text: &[u8]) -> Side
-    ensures { λ r. ⌜ r ≡ sideGivenBy (sideIn (now (text .entry))) ⌝ }
+    ensures side { λ r. ⌜ r ≡ sideByWord (sideIn (now (text .entry))) ⌝ }
+    ensures value { λ r. ⌜ sideNumber r ≡ sideNumber (sideByWord (sideIn (now (text .entry)))) ⌝ }
 {
     if same_bytes(text, b"free") {
         return Side::Free;

@@ -1,4 +1,4 @@
-// A plan: the sites of one level in list order and, once it is placed, its answer.
+// A plan: the sites of one level in list order and, once it is placed, its side and corners.
 use crate::name::Name;
 use crate::name::NameRead;
 use crate::name::same_name;
@@ -33,13 +33,13 @@ pub struct Plan {
     pub corners: [u8; Limits::SITES],
 }
 
-// What entering, reading and placing hand back: the answer, and the plan afterwards.
+// What entering, reading and choosing hand back: the answer, and the plan afterwards.
 pub struct Planned {
     pub outcome: Outcome,
     pub plan: Plan,
 }
 
-// The answer when the side is asked.
+// The answer when the side is asked or found.
 pub enum AskedSide {
     SideIs(Side),
     NoSide(Refusal),

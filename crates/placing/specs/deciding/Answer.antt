@@ -26,7 +26,7 @@ greatest (suc h) ps = elim (firstGood (suc h) ps) [ some cs ↦ numbered (suc h)
 unfoldable pub answerOf : List Place → Answer
 answerOf ps = elim (firstGood freeSide ps) [ some cs ↦ free cs | none ↦ greatest greatestSide ps ]
 
--- The corners of a choice, where there is one.
+-- Whether a choice exists, and its corners; none where it does not.
 abbrev pub isSome : Option (List ℕ) → Bool
 isSome (some cs) = true
 isSome none = false

@@ -29,7 +29,7 @@ pub record OnPlan (s : Place) : Type 0 where
   pub on-x : along X s ≤ greatestCoordinate
   pub on-y : along Y s ≤ greatestCoordinate
 
--- "A side is a whole number h of half units, from 1 to 20,000": the greatest; `IsAnswer` has the least.
+-- "A side is a whole number h of half units, from 1 to 20,000": the greatest; `IsAnswer` and `isSide` have the least.
 abbrev pub greatestSide : ℕ
 greatestSide = 20000
 

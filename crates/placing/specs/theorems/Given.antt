@@ -13,10 +13,10 @@ use Rattle.placing.specs.declared.units.Side.{Side}
 use Rattle.placing.specs.declared.units.Side.the-variants.{Number, Free}
 use Rattle.placing.specs.rules.Units.{Distinct, greatestSide, freeSide}
 use Rattle.placing.specs.rules.Choice.{SomeGood, First}
-use Rattle.placing.specs.rules.Answer.{Answer, isSide, judgedAt, numbered, free, IsAnswer, is-free, is-number, IsChosen}
+use Rattle.placing.specs.rules.Answer.{Answer, isSide, judgedAt, IsAnswer, is-free, is-number, IsChosen}
 use Rattle.placing.specs.deciding.Answer.{firstGood, answerOf, isSome, cornersOf, chosenAt}
-use Rattle.placing.specs.theorems.Choice.{good-smaller, first-unique}
-use Rattle.placing.specs.theorems.Answer.{NoneGood, firstGood-some, firstGood-none, first-found, none-found, answer-is}
+use Rattle.placing.specs.theorems.Choice.{good-smaller}
+use Rattle.placing.specs.theorems.Answer.{NoneGood, firstGood-some, firstGood-none, first-found, answer-is}
 
 -- ---- the range
 

@@ -26,9 +26,9 @@ use Rattle.plan.specs.rules.Calls.{findingTests, choosingTests, beforeCh
 use Rattle.plan.specs.deciding.Reading.{readList}
 use Rattle.plan.specs.calls.Plan.{unplacedPlan, placedWith, placedPlan, sitesIn}
 
--- ---- the answers that are enums: for each case the number of document 01, 0 where the call is accepted, and the value it carries
+-- ---- the answers that are enums: for each case the number of documents 01 and 02, 0 where the call is accepted, and the value it carries
 
--- Entering, reading and placing carry no value beside the plan.
+-- Entering, reading and choosing carry no value beside the plan.
 abbrev pub outcomeNumber : Outcome → ℕ
 outcomeNumber Done = 0
 outcomeNumber (Refused why) = numberOf why

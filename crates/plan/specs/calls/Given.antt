@@ -6,7 +6,7 @@ use Rattle.placing.specs.declared.units.Side.{Side}
 use Rattle.placing.specs.declared.units.Side.the-variants.{Number}
 use Rattle.placing.specs.rules.Answer.{isSide}
 
--- A word that is no side in range gives the number 0, which every call refuses with 3.
-abbrev pub sideGivenBy : Option Side → Side
-sideGivenBy none = Number (record { 0 = 0 })
-sideGivenBy (some side) = elim (isSide side) [ true ↦ side | false ↦ Number (record { 0 = 0 }) ]
+-- A word that is no side in range gives the number 0, which choosing refuses with 3.
+abbrev pub sideByWord : Option Side → Side
+sideByWord none = Number (record { 0 = 0 })
+sideByWord (some side) = elim (isSide side) [ true ↦ side | false ↦ Number (record { 0 = 0 }) ]

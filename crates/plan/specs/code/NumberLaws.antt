@@ -19,7 +19,7 @@ use Rattle.plan.specs.declared.number.NumberRead.the-variants.{Is, NoNum
 use Rattle.plan.specs.declared.number.Coordinate.the-variants.{At, Nowhere}
 use Rattle.plan.specs.rules.Text.{sameBytes, zeroDigit, digitsAfter, numberIn}
 use Rattle.plan.specs.rules.Sheet.{freeWord, numberedSide, sideIn}
-use Rattle.plan.specs.calls.Given.{sideGivenBy}
+use Rattle.plan.specs.calls.Given.{sideByWord}
 use Rattle.plan.specs.code.NumberRead.{numberRead, coordinateOf, sideOf}
 use Rattle.plan.specs.code.Coordinate.{coordinateRead}
 
@@ -135,14 +135,14 @@ number-coordinate (some n) is = ap coordinateOf is ∙ by-test (leb n greatestCo
     by-test false = refl
 
 -- A side is the word free,
-pub free-side : (text : List ℕ) → sameBytes text freeWord ≡ true → sideGivenBy (sideIn text) ≡ Free
-free-side text is = rw (is, sideGivenBy)
+pub free-side : (text : List ℕ) → sameBytes text freeWord ≡ true → sideByWord (sideIn text) ≡ Free
+free-side text is = rw (is, sideByWord)
 
 -- or a number up to the greatest side, where 0 stands for no side.
-number-given : (number : Option ℕ) → sideOf (numberRead greatestSide number) ≡ sideGivenBy (numberedSide number)
+number-given : (number : Option ℕ) → sideOf (numberRead greatestSide number) ≡ sideByWord (numberedSide number)
 number-given none = refl
 number-given (some zero) = refl
-number-given (some (suc n)) = rw (le-leb 1 (suc n) (omega arith), sideGivenBy) (by-test (leb (suc n) greatestSide))
+number-given (some (suc n)) = rw (le-leb 1 (suc n) (omega arith), sideByWord) (by-test (leb (suc n) greatestSide))
   where
     by-test : (t : Bool) → sideOf (elim t [ true ↦ Is (suc n) | false ↦ NoNumber ])
         ≡ elim t [ true ↦ Number (record { 0 = suc n }) | false ↦ Number (record { 0 = 0 }) ]
@@ -150,5 +150,5 @@ number-given (some (suc n)) = rw (le-leb 1 (suc n) (omega arith), sideGivenBy) (
     by-test false = refl
 
 pub number-side : (text : List ℕ) {read : NumberRead} → sameBytes text freeWord ≡ false → read ≡ numberRead greatestSide (numberIn text)
-    → sideOf read ≡ sideGivenBy (sideIn text)
-number-side text other is = rw (other, sideGivenBy) (ap sideOf is ∙ number-given (numberIn text))
+    → sideOf read ≡ sideByWord (sideIn text)
+number-side text other is = rw (other, sideByWord) (ap sideOf is ∙ number-given (numberIn text))

@@ -1,5 +1,6 @@
--- Document 01, "Calls on a plan", with placing as document 02, L1, has split it: the tables of finding, choosing, asking and writing, the value where a call is accepted, and the lent bytes
--- afterwards. Entering and reading stand in `List`; what start and count hand back, and which plans the calls hand back, in `calls/`.
+-- Document 01, "Calls on a plan", with placing as document 02, L1, has split it: the tables of finding, choosing, asking and writing, the
+-- value where a call is accepted, and the lent bytes afterwards. Entering and reading stand in `List`; what start and count hand back, and
+-- which plans the calls hand back, in `calls/`.
 -- Assumes nothing.
 use mathlib.Core.Bool.{Bool, not}
 use mathlib.Core.List.{List, [], _∷_, _++_}
@@ -33,23 +34,24 @@ noGood exists = not exists gives NoGoodChoice
 abbrev pub findingTests : (n bytes : ℕ) → List Test
 findingTests n bytes = noSites n ∷ shortTable n bytes ∷ []
 
--- L1, choosing at a given side: 3 is "tested first", then 8 and 11; 12 is "tested after 11".
-abbrev pub choosingTests : Side → (n bytes : ℕ) → (exists : Bool) → List Test
-choosingTests side n bytes exists = outside side ∷ noSites n ∷ shortTable n bytes ∷ noGood exists ∷ []
-
--- "After placing, its first n × n bytes are zero and the others are untouched." L1: "Both calls leave the work table as placing did, and
--- 12, unlike other refusals, does so too": so it is after choosing unless one of the tests before 12 holds.
-abbrev pub cleared : ℕ → List ℕ → List ℕ
-cleared n table = replicate (n * n) 0 ++ drop (n * n) table
-
+-- L1, choosing at a given side: 3 is "tested first", then 8 and 11,
 abbrev pub beforeChoice : Side → (n bytes : ℕ) → List Test
 beforeChoice side n bytes = outside side ∷ findingTests n bytes
+
+-- and 12 is "tested after 11".
+abbrev pub choosingTests : Side → (n bytes : ℕ) → (exists : Bool) → List Test
+choosingTests side n bytes exists = beforeChoice side n bytes ++ (noGood exists ∷ [])
+
+-- "After placing, its first n × n bytes are zero and the others are untouched." L1: "Both calls leave the work table as placing did, and
+-- 12, unlike other refusals, does so too": so it is after choosing unless a test of `beforeChoice` holds.
+abbrev pub cleared : ℕ → List ℕ → List ℕ
+cleared n table = replicate (n * n) 0 ++ drop (n * n) table
 
 -- The program finds the side of the list that it reads: 8 where it has no sites.
 abbrev pub toPlace : Result (List Site) → Result (List Site)
 toPlace read = after read (λ sites. afterTests (noSites (length sites) ∷ []) sites)
 
--- At a given side it tests 3 before it reads, and 12 after 8.
+-- At a given side it tests 3 before the list's own refusals, and 12 after 8.
 abbrev pub toPlaceAt : Side → (List Site → Bool) → Result (List Site) → Result (List Site)
 toPlaceAt side exists read =
     after (afterTests (outside side ∷ []) read)

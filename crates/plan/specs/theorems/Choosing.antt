@@ -1,32 +1,31 @@
 -- Document 02, L1: which sides a plan can be placed at, and what finding and choosing lead to.
 -- Assumes nothing.
-use mathlib.Core.Path.{_≡_, refl, sym, ap, _∙_, subst}
-use mathlib.Core.Bool.{Bool, true, false, not, true≢false, false≢true}
+use mathlib.Core.Path.{_≡_, refl, sym, ap, _∙_}
+use mathlib.Core.Bool.{Bool, true, false, not, false≢true}
 use mathlib.Core.List.{List, [], _∷_}
-use mathlib.Core.Option.{Option, some, none}
 use Prim.Native.Nat.{ℕ, _*_, _≤_, _<_}
 use native.Mathlib.Omega.{arith}
 use borrow.Author.Tests.{ne-eqb, le-ltb}
 use lib.Dec.{eqb, ltb}
-use lib.ListN.{length}
+use lib.ListN.{length, drop, replicate, length-append, length-replicate, length-drop}
 use Rattle.placing.specs.declared.units.Side.{Side}
 use Rattle.placing.specs.rules.Units.{Distinct}
 use Rattle.placing.specs.rules.Choice.{SomeGood}
 use Rattle.placing.specs.rules.Answer.{Answer, isSide, judgedAt, IsChosen}
-use Rattle.placing.specs.deciding.Answer.{firstGood, answerOf, isSome, chosenAt}
+use Rattle.placing.specs.deciding.Answer.{answerOf, chosenAt}
 use Rattle.placing.specs.theorems.Answer.{answer-is}
 use Rattle.placing.specs.theorems.Given.{judged-range, some-found, found-some, is-chosen-at, answer-chosen, found-chosen, up-to-found, above-found}
 use Rattle.plan.specs.declared.refusal.Outcome.the-variants.{Done, Refused}
-use Rattle.plan.specs.declared.refusal.Refusal.{Refusal}
 use Rattle.plan.specs.declared.refusal.Refusal.the-variants.{BadNumber, NoSites, ShortTable, NoGoodChoice}
+use Rattle.plan.specs.declared.plan.AskedSide.the-variants.{SideIs}
 use Rattle.plan.specs.declared.plan.Plan.{Plan}
 use Rattle.plan.specs.declared.plan.Planned.{Planned}
-use Rattle.plan.specs.rules.Refusal.{numberOf, _gives_, firstRefusal, accepted, unless, afterTests}
-use Rattle.plan.specs.rules.List.{Site, placesOf, Listed}
-use Rattle.plan.specs.rules.Calls.{outside, noSites, noGood, choosingTests}
+use Rattle.plan.specs.rules.Refusal.{_gives_, firstRefusal, Result, accepted, unless, afterTests}
+use Rattle.plan.specs.rules.List.{Site, placesOf}
+use Rattle.plan.specs.rules.Calls.{outside, noSites, noGood, choosingTests, cleared, bytesAfter}
 use Rattle.plan.specs.deciding.Output.{existsAt}
 use Rattle.plan.specs.calls.Plan.{unplacedPlan, placedWith, placedPlan, sitesIn, Valid, is-unplaced, is-placed}
-use Rattle.plan.specs.calls.Answers.{outcomeNumber, handed, sideFound, chosenFor, chosenIn}
+use Rattle.plan.specs.calls.Answers.{outcomeNumber, handed, sideAnswer, sideFound, foundIn, tableFound, chosenFor, chosenIn}
 use Rattle.plan.specs.theorems.Plan.{Holding, sites-unplaced, sites-placed}
 
 -- 12 is given only where no good choice exists at the side.
@@ -111,13 +110,34 @@ module _ (plan : Plan) (table : List ℕ) (some-sites : plan .count ≡ 0 → �
       above-refused above =
           chosen-none (λ some-good. above-found places above (judged-range side given .1) (some-good .choice) (some-good .good))
 
-  -- Finding, and choosing at what was found, gives the answer.
-  pub found-then-chosen : Distinct (placesOf (sitesIn plan))
-      → chosenIn plan (answerOf (placesOf (sitesIn plan)) .side) table ≡ record { outcome = Done; plan = placedPlan (sitesIn plan) }
-  found-then-chosen places =
-      let chosen = answer-chosen (answer-is (placesOf (sitesIn plan)) places) in
-      chosen-done (answerOf (placesOf (sitesIn plan)) .side) (chosen .given) (record { choice = _; good = chosen .first .good })
-      ∙ ap {B = Planned} (λ (a : Answer). record { outcome = Done; plan = placedWith (sitesIn plan) a }) (found-chosen places)
+-- A cleared table is as long as it was.
+cleared-length : (n : ℕ) (table : List ℕ) → n * n ≤ length table → length (cleared n table) ≡ length table
+cleared-length n table room =
+    omega (arith, length-append (replicate (n * n) 0) (drop (n * n) table), length-replicate {A = ℕ} (n * n) 0, length-drop (n * n) table)
+
+-- Choosing at the answer's side gives the answer.
+answer-placed : (plan : Plan) (table : List ℕ) → Distinct (placesOf (sitesIn plan)) → (plan .count ≡ 0 → ⊥)
+    → plan .count * plan .count ≤ length table
+    → chosenIn plan (answerOf (placesOf (sitesIn plan)) .side) table ≡ record { outcome = Done; plan = placedPlan (sitesIn plan) }
+answer-placed plan table places some-sites room =
+    let chosen = answer-chosen (answer-is (placesOf (sitesIn plan)) places) in
+    chosen-done plan table some-sites room (answerOf (placesOf (sitesIn plan)) .side) (chosen .given)
+    (record { choice = _; good = chosen .first .good })
+    ∙ ap {B = Planned} (λ (a : Answer). record { outcome = Done; plan = placedWith (sitesIn plan) a }) (found-chosen places)
+
+-- So finding, and choosing at what was found with the table that finding left, gives the answer.
+pub found-then-chosen : (plan : Plan) (table : List ℕ) {side : Side} → Distinct (placesOf (sitesIn plan)) → (plan .count ≡ 0 → ⊥)
+    → plan .count * plan .count ≤ length table → foundIn plan table ≡ SideIs side
+    → chosenIn plan side (tableFound plan table) ≡ record { outcome = Done; plan = placedPlan (sitesIn plan) }
+found-then-chosen plan table {side} places some-sites room found =
+    let done = found-done plan table some-sites room in
+    let told : SideIs side ≡ SideIs (answerOf (placesOf (sitesIn plan)) .side) = sym found ∙ ap sideAnswer done in
+    let same : side ≡ answerOf (placesOf (sitesIn plan)) .side = cc in
+    let left : tableFound plan table ≡ cleared (plan .count) table
+    = ap (λ (r : Result Side). bytesAfter r (cleared (plan .count) table) table) done in
+    let size : length (tableFound plan table) ≡ length table = ap length left ∙ cleared-length (plan .count) table room in
+    ap (λ (s : Side). chosenIn plan s (tableFound plan table)) same
+    ∙ answer-placed plan (tableFound plan table) places some-sites (omega arith)
 
 -- The plan of some sites, placed by choosing at the side of what is chosen for them.
 pub placed-by : {plan : Plan} {sites : List Site} (answer : Answer) (table : List ℕ) → Holding plan sites → sitesIn plan ≡ sites → 1 ≤ length sites

@@ -2,7 +2,7 @@
 -- Assumes nothing.
 use mathlib.Core.Path.{_≡_, refl, sym, ap, ap₂, _∙_, subst}
 use mathlib.Core.Bool.{true≢false}
-use mathlib.Core.Logic.{_⊎_, inl, inr}
+use mathlib.Core.Logic.{inl, inr}
 use mathlib.Core.List.{List, []}
 use Prim.Native.Nat.{ℕ, _≤_}
 use native.Mathlib.Decide.{ℕ-discrete}
@@ -18,7 +18,7 @@ use Rattle.plan.specs.declared.plan.Plan.{Plan}
 use Rattle.plan.specs.declared.plan.Planned.{Planned}
 use Rattle.plan.specs.rules.List.{Site, placesOf, listText, Reads, end}
 use Rattle.plan.specs.rules.Sheet.{sheetWith, refusalLine}
-use Rattle.plan.specs.rules.Calls.{choosingTests, cleared}
+use Rattle.plan.specs.rules.Calls.{choosingTests}
 use Rattle.plan.specs.deciding.Output.{outputOf, existsAt, outputAt}
 use Rattle.plan.specs.calls.Plan.{sitesIn}
 use Rattle.plan.specs.calls.Answers.{outcomeNumber}
@@ -105,23 +105,29 @@ carried-sites for = sym (for .gives-back) ∙ for .placed .list
 
 -- ---- what a call tells
 
--- Choosing: the number of its table, the plan as it came where that is a refusal, and the table as it came or cleared.
+-- Choosing: the number of its table; and one number, one table afterwards and, refused, one plan.
 pub choose-tells : {plan : Plan} {side : Side} {table : List ℕ} {r : Planned} {after : List ℕ} → ChooseTold plan side table r after
     → Tells (choosingTests side (plan .count) (length table) (existsAt side (sitesIn plan))) (outcomeNumber (r .outcome))
-    × ((1 ≤ outcomeNumber (r .outcome) → r .plan ≡ plan) × ((after ≡ table) ⊎ (after ≡ cleared (plan .count) table)))
-choose-tells {plan} {side} {table} {r} {after} told = (
-  subst (Tells _) (sym (told .number-is))
-      (table-tells (choosingTests side (plan .count) (length table) (existsAt side (sitesIn plan)))),
-  (λ some-number. told .plan-kept (λ zero. omega arith), by-number (ℕ-discrete number 0) (ℕ-discrete number 12)),
+choose-tells {plan} {side} {table} told =
+    subst (Tells _) (sym (told .number-is)) (table-tells (choosingTests side (plan .count) (length table) (existsAt side (sitesIn plan))))
+
+pub choose-told-one : {plan : Plan} {side : Side} {table one other : List ℕ} {r s : Planned} → ChooseTold plan side table r one
+    → ChooseTold plan side table s other
+    → (outcomeNumber (r .outcome) ≡ outcomeNumber (s .outcome)) × (one ≡ other) × ((outcomeNumber (r .outcome) ≡ 0 → ⊥) → r .plan ≡ s .plan)
+choose-told-one {one = one} {other} {r} {s} a b = (
+  same,
+  by-number (ℕ-discrete (outcomeNumber (r .outcome)) 0) (ℕ-discrete (outcomeNumber (r .outcome)) 12),
+  λ some-number. a .plan-kept some-number ∙ sym (b .plan-kept (λ zero. some-number (same ∙ zero))),
 )
   where
-    number : ℕ
-    number = outcomeNumber (r .outcome)
+    same : outcomeNumber (r .outcome) ≡ outcomeNumber (s .outcome)
+    same = a .number-is ∙ sym (b .number-is)
 
-    by-number : Dec (number ≡ 0) → Dec (number ≡ 12) → (after ≡ table) ⊎ (after ≡ cleared (plan .count) table)
-    by-number (yes zero) other = inr (told .table-cleared (inl zero))
-    by-number (no some) (yes twelve) = inr (told .table-cleared (inr twelve))
-    by-number (no some) (no other) = inl (told .table-kept some other)
+    by-number : Dec (outcomeNumber (r .outcome) ≡ 0) → Dec (outcomeNumber (r .outcome) ≡ 12) → one ≡ other
+    by-number (yes zero) more = a .table-cleared (inl zero) ∙ sym (b .table-cleared (inl (sym same ∙ zero)))
+    by-number (no some) (yes twelve) = a .table-cleared (inr twelve) ∙ sym (b .table-cleared (inr (sym same ∙ twelve)))
+    by-number (no some) (no more) =
+        a .table-kept some more ∙ sym (b .table-kept (λ zero. some (same ∙ zero)) (λ twelve. more (same ∙ twelve)))
 
 -- Another call: the number of its table, and where that is a refusal everything as it came.
 pub told-tells : {Given : Type 0} {given : ℕ} {before after : Given} (tests : List Test) → Refuses given (numberBy tests) before after

@@ -110,7 +110,7 @@ sheet-placed {a} sites listed some-sites chosen =
           subst (RightSheet sites) (sym (prints-found sites listed chosen prints)) (sheet-right sites listed some-sites);
     }
 
--- The condition is met by every right sheet, and so by every output of the program that is a sheet.
+-- The condition is met by every right sheet,
 pub right-found : {sites : List Site} {sheet : List ℕ} → Listed sites → RightSheet sites sheet → PrintsFound sheet
 right-found {sites} listed right =
     let each = chosen-lined sites listed (answer-chosen (right .is-answer)) in
@@ -131,6 +131,10 @@ sheet-for text sites accepts =
       gives-back =
           sheet-right sites listed (accepts .some-sites) .list ∙ read-list text sites (reads-are (accepts .read));
     }
+
+-- So the condition is met by every sheet that the program writes at the side found.
+pub sheet-found : {text sheet : List ℕ} → SheetFor text sheet → PrintsFound sheet
+sheet-found {text} for = right-found (read-listed text (for .sites) (reads-are (for .accepts .read))) (for .right)
 
 -- At a side too.
 pub sheet-for-at : {a : Answer} (text : List ℕ) (sites : List Site) → Accepts text sites → IsChosen (placesOf sites) a

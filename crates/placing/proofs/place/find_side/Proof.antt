@@ -7,6 +7,7 @@ use native.Mathlib.Nat.{mul-le-mul-right}
 use native.Mathlib.Omega.{arith}
 use lib.ListN.{replicate}
 use Rattle.placing.specs.declared.units.Place.{Place}
+use Rattle.placing.specs.rules.Answer.{sideNumber}
 use Rattle.placing.specs.deciding.Answer.{answerOf}
 use Rattle.placing.specs.code.Marks.{kept-further}
 use Rattle.placing.specs.code.Placed.{may-find}
@@ -38,11 +39,16 @@ returns c =
     let at-start-coordinates = at-find .before .before .before .before .before .before in
     let at-start = at-start-coordinates .before .before in
     let n = at-start .args .n in
-    let wide : 1 * n ≤ n * n = mul-le-mul-right n (at-start .pre .some-sites) in (
-      at-find .greatest-side .ensures .0
-          ∙ ap (λ (l : List Place). answerOf l .side) (at-start-coordinates .coordinates-of .ensures .same-sites),
-      at-clear .clear .ensures
-          ∙ ap (λ (l : List ℕ). replicate (n * n) 0 ++ l) (kept-further (n * n) (omega arith) (at-find .greatest-side .ensures .1)),
+    let wide : 1 * n ≤ n * n = mul-le-mul-right n (at-start .pre .some-sites) in
+    let side =
+    at-find .greatest-side .ensures .0
+    ∙ ap (λ (l : List Place). answerOf l .side) (at-start-coordinates .coordinates-of .ensures .same-sites) in (
+      side,
+      (
+        at-clear .clear .ensures
+            ∙ ap (λ (l : List ℕ). replicate (n * n) 0 ++ l) (kept-further (n * n) (omega arith) (at-find .greatest-side .ensures .1)),
+        ap sideNumber side,
+      ),
     )
 
 pub find-side-spec : {M : Type 1} → statement M

@@ -46,7 +46,7 @@ returns-2 c =
     let start = call .before .before in
     find-accepts (start .args .plan) (now (start .args .table)) (outcome-done _ (sym (call .unready .ensures) ∙ told .enum-told .given .1))
     (found .find-side .ensures .0 ∙ ap (λ (ps : List Place). answerOf ps .side) (holding-places (valid-holding (start .pre))))
-    (found .find-side .ensures .1)
+    (found .find-side .ensures .1 .0)
 
 pub find-spec : {M : Type 1} → statement M
 find-spec =

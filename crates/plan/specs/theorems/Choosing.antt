@@ -5,7 +5,7 @@ use mathlib.Core.Bool.{Bool, true, false, not, false≢true}
 use mathlib.Core.List.{List, [], _∷_}
 use Prim.Native.Nat.{ℕ, _*_, _≤_, _<_}
 use native.Mathlib.Omega.{arith}
-use borrow.Author.Tests.{ne-eqb, le-ltb}
+use borrow.Author.Tests.{ne-eqb, le-ltb, lt-ltb}
 use lib.Dec.{eqb, ltb}
 use lib.ListN.{length, drop, replicate, length-append, length-replicate, length-drop}
 use Rattle.placing.specs.declared.units.Side.{Side}
@@ -20,13 +20,28 @@ use Rattle.plan.specs.declared.refusal.Refusal.the-variants.{BadNumber, 
 use Rattle.plan.specs.declared.plan.AskedSide.the-variants.{SideIs}
 use Rattle.plan.specs.declared.plan.Plan.{Plan}
 use Rattle.plan.specs.declared.plan.Planned.{Planned}
-use Rattle.plan.specs.rules.Refusal.{_gives_, firstRefusal, Result, accepted, unless, afterTests}
+use Rattle.plan.specs.rules.Refusal.{numberBy, _gives_, firstRefusal, Result, accepted, unless, afterTests}
 use Rattle.plan.specs.rules.List.{Site, placesOf}
 use Rattle.plan.specs.rules.Calls.{outside, noSites, noGood, choosingTests, cleared, bytesAfter}
 use Rattle.plan.specs.deciding.Output.{existsAt}
 use Rattle.plan.specs.calls.Plan.{unplacedPlan, placedWith, placedPlan, sitesIn, Valid, is-unplaced, is-placed}
-use Rattle.plan.specs.calls.Answers.{outcomeNumber, handed, sideAnswer, sideFound, foundIn, tableFound, chosenFor, chosenIn}
+use Rattle.plan.specs.calls.Answers.{outcomeNumber, handed, sideAnswer, sideFound, foundIn, tableFound, chosenFor, chosenIn, tableChosen}
 use Rattle.plan.specs.theorems.Plan.{Holding, sites-unplaced, sites-placed}
+
+-- The order 3, 8, 11, 12, whatever the tests behind the first that holds come to.
+pub three-first : (side : Side) (n bytes : ℕ) (exists : Bool) → isSide side ≡ false → numberBy (choosingTests side n bytes exists) ≡ 3
+three-first side n bytes exists given = rw given
+
+pub eight-second : (side : Side) (bytes : ℕ) (exists : Bool) → isSide side ≡ true → numberBy (choosingTests side 0 bytes exists) ≡ 8
+eight-second side bytes exists given = rw given
+
+pub eleven-third : (side : Side) (n bytes : ℕ) (exists : Bool) → isSide side ≡ true → (n ≡ 0 → ⊥) → bytes < n * n
+    → numberBy (choosingTests side n bytes exists) ≡ 11
+eleven-third side n bytes exists given some-sites short = rw (given, ne-eqb n 0 some-sites, lt-ltb bytes (n * n) short)
+
+pub twelve-last : (side : Side) (n bytes : ℕ) → isSide side ≡ true → (n ≡ 0 → ⊥) → n * n ≤ bytes
+    → numberBy (choosingTests side n bytes false) ≡ 12
+twelve-last side n bytes given some-sites room = rw (given, ne-eqb n 0 some-sites, le-ltb bytes (n * n) room)
 
 -- 12 is given only where no good choice exists at the side.
 pub twelve-none : (plan : Plan) (side : Side) (table : List ℕ) → outcomeNumber (chosenIn plan side table .outcome) ≡ 12
@@ -76,7 +91,15 @@ module _ (plan : Plan) (table : List ℕ) (some-sites : plan .count ≡ 0 → �
   pub found-done : sideFound plan table ≡ accepted (answerOf (placesOf (sitesIn plan)) .side)
   found-done = rw (ne-eqb (plan .count) 0 some-sites, le-ltb (length table) (plan .count * plan .count) room)
 
+  -- and the table is cleared,
+  pub table-found : tableFound plan table ≡ cleared (plan .count) table
+  table-found = ap (λ (found : Result Side). bytesAfter found (cleared (plan .count) table) table) found-done
+
   module _ (side : Side) (given : isSide side ≡ true) where
+    -- as it is by choosing, with 12 too.
+    pub table-chosen : tableChosen plan side table ≡ cleared (plan .count) table
+    table-chosen = rw (given, ne-eqb (plan .count) 0 some-sites, le-ltb (length table) (plan .count * plan .count) room)
+
     -- Of a side that can be given, only 12 is left to be tested.
     chosen-tested : {exists : Bool} → existsAt side (sitesIn plan) ≡ exists
         → chosenFor plan side table ≡ unless (firstRefusal (not exists gives NoGoodChoice ∷ [])) (chosenAt side (placesOf (sitesIn plan)))
@@ -133,8 +156,7 @@ found-then-chosen plan table {side} places some-sites room found =
     let done = found-done plan table some-sites room in
     let told : SideIs side ≡ SideIs (answerOf (placesOf (sitesIn plan)) .side) = sym found ∙ ap sideAnswer done in
     let same : side ≡ answerOf (placesOf (sitesIn plan)) .side = cc in
-    let left : tableFound plan table ≡ cleared (plan .count) table
-    = ap (λ (r : Result Side). bytesAfter r (cleared (plan .count) table) table) done in
+    let left = table-found plan table some-sites room in
     let size : length (tableFound plan table) ≡ length table = ap length left ∙ cleared-length (plan .count) table room in
     ap (λ (s : Side). chosenIn plan s (tableFound plan table)) same
     ∙ answer-placed plan (tableFound plan table) places some-sites (omega arith)

@@ -1,28 +1,32 @@
 -- The demands name one output: whoever answers a text by them writes the same bytes.
 -- Assumes nothing.
 use mathlib.Core.Path.{_≡_, refl, sym, ap, ap₂, _∙_, subst}
-use mathlib.Core.Bool.{true≢false}
+use mathlib.Core.Bool.{true, true≢false}
 use mathlib.Core.Logic.{inl, inr}
 use mathlib.Core.List.{List, []}
-use Prim.Native.Nat.{ℕ, _≤_}
+use mathlib.Core.Option.{some}
+use Prim.Native.Nat.{ℕ, _≤_, _<_}
 use native.Mathlib.Decide.{ℕ-discrete}
 use native.Mathlib.Omega.{arith}
 use lib.ListN.{length}
 use Rattle.placing.specs.declared.units.Side.{Side}
 use Rattle.placing.specs.rules.Choice.{SomeGood}
-use Rattle.placing.specs.rules.Answer.{Answer, judgedAt, IsAnswer}
+use Rattle.placing.specs.rules.Answer.{Answer, isSide, judgedAt, IsAnswer}
 use Rattle.placing.specs.theorems.Answer.{answer-unique}
 use Rattle.placing.specs.theorems.Given.{is-chosen-at}
+use Rattle.placing.specs.deciding.Answer.{chosenAt}
 use Rattle.plan.specs.rules.Refusal.{Test, numberBy, Result, accepted, refused}
 use Rattle.plan.specs.declared.plan.Plan.{Plan}
 use Rattle.plan.specs.declared.plan.Planned.{Planned}
 use Rattle.plan.specs.rules.List.{Site, placesOf, listText, Reads, end}
-use Rattle.plan.specs.rules.Sheet.{sheetWith, refusalLine}
-use Rattle.plan.specs.rules.Calls.{choosingTests}
+use Rattle.plan.specs.rules.Sheet.{sheetWith, sideOn, refusalLine}
+use Rattle.plan.specs.rules.Calls.{findingTests, choosingTests, cleared}
 use Rattle.plan.specs.deciding.Output.{outputOf, existsAt, outputAt}
-use Rattle.plan.specs.calls.Plan.{sitesIn}
-use Rattle.plan.specs.calls.Answers.{outcomeNumber}
+use Rattle.plan.specs.declared.plan.AskedSide.{AskedSide}
+use Rattle.plan.specs.calls.Plan.{placedWith, placedPlan, sitesIn}
+use Rattle.plan.specs.calls.Answers.{outcomeNumber, sideAskedNumber}
 use Rattle.plan.specs.Demands.{Refuses, ChooseTold, FirstRefused, Accepts, ListRefused, at-line, no-sites, RightSheet, SheetFor, Answered, refusal-line, list-sheet}
+use Rattle.plan.specs.Demands.{FindTold, ListTold, list-refused, list-placed, ListToldAt, refused-at, placed-at}
 use Rattle.plan.specs.Demands.{RefusedAt, out-of-range, refused-list, none-good, PlacedSheet, SheetForAt, AnsweredAt, refusal-at, sheet-at}
 use Rattle.plan.specs.theorems.Tables.{Tells, table-tells}
 use Rattle.plan.specs.theorems.Reading.{reads-unique, reads-are}
@@ -81,6 +85,14 @@ refused-no-sheet {side} (none-good given sites accepts none) for =
     (subst (λ (l : List Site). SomeGood (judgedAt side) (placesOf l)) (accepted-same (for .accepts) accepts)
     (record { choice = for .placed .corners; good = for .placed .is-chosen .first .good }))
 
+-- Nor is it refused where its sites have a good choice at a side that can be given.
+refused-not-chosen : {side : Side} {text : List ℕ} {sites : List Site} {n : ℕ} → RefusedAt side text n → Accepts text sites
+    → isSide side ≡ true → SomeGood (judgedAt side) (placesOf sites) → ⊥
+refused-not-chosen (out-of-range r) accepts given some-good = true≢false (sym given ∙ r)
+refused-not-chosen (refused-list given′ r) accepts given some-good = refused-list-not-accepted r accepts
+refused-not-chosen {side} (none-good given′ others accepts′ none) accepts given some-good =
+    none (subst (λ (l : List Site). SomeGood (judgedAt side) (placesOf l)) (accepted-same accepts accepts′) some-good)
+
 -- So two outputs for the same text at the same side are one.
 pub answered-at-one : {side : Side} {text one other : List ℕ} → AnsweredAt side text one → AnsweredAt side text other → one ≡ other
 answered-at-one (refusal-at r is) (refusal-at s so) = is ∙ ap refusalLine (refused-at-one r s) ∙ sym so
@@ -95,9 +107,14 @@ answered-at-one {side} {one = one} (sheet-at a) (sheet-at b) =
 pub carried-again : {text sheet : List ℕ} → SheetFor text sheet → outputOf text ≡ sheet
 carried-again for = ap outputOf (sym (for .gives-back)) ∙ for .right .again
 
--- at a given side when it is placed there;
-pub carried-again-at : {side : Side} {text sheet : List ℕ} → SheetForAt side text sheet → outputAt side text ≡ sheet
-carried-again-at {side} for = ap (outputAt side) (sym (for .gives-back)) ∙ for .placed .again side (for .placed .side-on)
+-- at a given side when it is placed at the side that it prints,
+pub carried-again-at : {side : Side} {text sheet : List ℕ} → SheetForAt side text sheet → (printed : Side) → sideOn sheet ≡ some printed
+    → outputAt printed text ≡ sheet
+carried-again-at for printed is = ap (outputAt printed) (sym (for .gives-back)) ∙ for .placed .again printed is
+
+-- which is the one that was given;
+pub given-again-at : {side : Side} {text sheet : List ℕ} → SheetForAt side text sheet → outputAt side text ≡ sheet
+given-again-at {side} for = carried-again-at for side (for .placed .side-on)
 
 -- and it is that of the sites.
 pub carried-sites : {side : Side} {text sheet : List ℕ} (for : SheetForAt side text sheet) → text ≡ listText (for .sites)
@@ -105,29 +122,15 @@ carried-sites for = sym (for .gives-back) ∙ for .placed .list
 
 -- ---- what a call tells
 
--- Choosing: the number of its table; and one number, one table afterwards and, refused, one plan.
+-- Choosing: the number of its table, and the plan as it came where that is a refusal;
 pub choose-tells : {plan : Plan} {side : Side} {table : List ℕ} {r : Planned} {after : List ℕ} → ChooseTold plan side table r after
     → Tells (choosingTests side (plan .count) (length table) (existsAt side (sitesIn plan))) (outcomeNumber (r .outcome))
-choose-tells {plan} {side} {table} told =
-    subst (Tells _) (sym (told .number-is)) (table-tells (choosingTests side (plan .count) (length table) (existsAt side (sitesIn plan))))
-
-pub choose-told-one : {plan : Plan} {side : Side} {table one other : List ℕ} {r s : Planned} → ChooseTold plan side table r one
-    → ChooseTold plan side table s other
-    → (outcomeNumber (r .outcome) ≡ outcomeNumber (s .outcome)) × (one ≡ other) × ((outcomeNumber (r .outcome) ≡ 0 → ⊥) → r .plan ≡ s .plan)
-choose-told-one {one = one} {other} {r} {s} a b = (
-  same,
-  by-number (ℕ-discrete (outcomeNumber (r .outcome)) 0) (ℕ-discrete (outcomeNumber (r .outcome)) 12),
-  λ some-number. a .plan-kept some-number ∙ sym (b .plan-kept (λ zero. some-number (same ∙ zero))),
+    × (1 ≤ outcomeNumber (r .outcome) → r .plan ≡ plan)
+choose-tells {plan} {side} {table} told = (
+  subst (Tells _) (sym (told .number-is))
+      (table-tells (choosingTests side (plan .count) (length table) (existsAt side (sitesIn plan)))),
+  λ some-number. told .plan-kept (λ zero. omega arith),
 )
-  where
-    same : outcomeNumber (r .outcome) ≡ outcomeNumber (s .outcome)
-    same = a .number-is ∙ sym (b .number-is)
-
-    by-number : Dec (outcomeNumber (r .outcome) ≡ 0) → Dec (outcomeNumber (r .outcome) ≡ 12) → one ≡ other
-    by-number (yes zero) more = a .table-cleared (inl zero) ∙ sym (b .table-cleared (inl (sym same ∙ zero)))
-    by-number (no some) (yes twelve) = a .table-cleared (inr twelve) ∙ sym (b .table-cleared (inr (sym same ∙ twelve)))
-    by-number (no some) (no more) =
-        a .table-kept some more ∙ sym (b .table-kept (λ zero. some (same ∙ zero)) (λ twelve. more (same ∙ twelve)))
 
 -- Another call: the number of its table, and where that is a refusal everything as it came.
 pub told-tells : {Given : Type 0} {given : ℕ} {before after : Given} (tests : List Test) → Refuses given (numberBy tests) before after
@@ -135,4 +138,49 @@ pub told-tells : {Given : Type 0} {given : ℕ} {before after : Given} (tests : 
 told-tells tests told = (
   subst (Tells tests) (sym (told .number-is)) (table-tells tests),
   λ some-number. told .as-it-came (λ zero. omega (arith, told .number-is, some-number, zero)),
+)
+
+-- Reading a list and placing it, at a given side too, is told in one way: one number and one plan.
+pub list-told-one : {text : List ℕ} {r s : Planned} → ListTold text r → ListTold text s
+    → (outcomeNumber (r .outcome) ≡ outcomeNumber (s .outcome)) × (r .plan ≡ s .plan)
+list-told-one (list-refused r is) (list-refused s so) = (refused-one r s, is ∙ sym so)
+list-told-one (list-refused r is) (list-placed sites accepts zero so) = absurd (refused-list-not-accepted r accepts)
+list-told-one (list-placed sites accepts zero is) (list-refused s so) = absurd (refused-list-not-accepted s accepts)
+list-told-one (list-placed sites accepts zero is) (list-placed others accepts′ zero′ so) =
+    (zero ∙ sym zero′, is ∙ ap placedPlan (accepted-same accepts accepts′) ∙ sym so)
+
+pub list-told-at-one : {side : Side} {text : List ℕ} {r s : Planned} → ListToldAt side text r → ListToldAt side text s
+    → (outcomeNumber (r .outcome) ≡ outcomeNumber (s .outcome)) × (r .plan ≡ s .plan)
+list-told-at-one (refused-at r is) (refused-at s so) = (refused-at-one r s, is ∙ sym so)
+list-told-at-one (refused-at r is) (placed-at sites corners accepts chosen zero so) =
+    absurd (refused-not-chosen r accepts (chosen .given) (record { choice = corners; good = chosen .first .good }))
+list-told-at-one (placed-at sites corners accepts chosen zero is) (refused-at s so) =
+    absurd (refused-not-chosen s accepts (chosen .given) (record { choice = corners; good = chosen .first .good }))
+list-told-at-one {side} (placed-at sites corners accepts chosen zero is) (placed-at others corners′ accepts′ chosen′ zero′ so) = (
+  zero ∙ sym zero′,
+  is
+      ∙ ap (placedWith sites) (is-chosen-at chosen)
+      ∙ ap (λ (l : List Site). placedWith l (chosenAt side (placesOf l))) (accepted-same accepts accepts′)
+      ∙ ap (placedWith others) (sym (is-chosen-at chosen′))
+      ∙ sym so,
+)
+
+-- Finding: the number of its table, and the table as it came where that is a refusal.
+pub find-tells : (plan : Plan) (table : List ℕ) (r : AskedSide) (after : List ℕ) → FindTold plan table r after
+    → Tells (findingTests (plan .count) (length table)) (sideAskedNumber r) × (1 ≤ sideAskedNumber r → after ≡ table)
+find-tells plan table r after told =
+    let both = told-tells (findingTests (plan .count) (length table)) told in
+    (both .0, λ some-number. both .1 (omega (arith, told .number-is, some-number)))
+
+-- Choosing leaves the table cleared with 12 and where it is accepted, and as it came with every other number.
+pub choose-leaves : {plan : Plan} {side : Side} {table : List ℕ} {r : Planned} {after : List ℕ} → ChooseTold plan side table r after
+    → (outcomeNumber (r .outcome) ≡ 0 → after ≡ cleared (plan .count) table)
+    × ((outcomeNumber (r .outcome) ≡ 12 → after ≡ cleared (plan .count) table)
+    × ((number : ℕ) → outcomeNumber (r .outcome) ≡ number → 1 ≤ number → number < 12 → after ≡ table))
+choose-leaves told = (
+  λ zero. told .table-cleared (inl zero),
+  (
+    λ twelve. told .table-cleared (inr twelve),
+    λ number is some-number below. told .table-kept (λ zero. omega (arith, is, zero)) (λ twelve. omega (arith, is, twelve)),
+  ),
 )

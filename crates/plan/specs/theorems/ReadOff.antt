@@ -3,7 +3,7 @@
 use mathlib.Core.Bool.{Bool, true, false}
 use mathlib.Core.Path.{_≡_, refl, sym, ap, _∙_, subst}
 use mathlib.Core.List.{List, [], _∷_, _++_, append-assoc}
-use mathlib.Core.Option.{some, Option·none-ne-some}
+use mathlib.Core.Option.{Option, some, none, Option·none-ne-some}
 use Prim.Native.Nat.{ℕ, _*_, _≤_, _<_}
 use native.Mathlib.Omega.{arith}
 use lib.ListN.{length, getD, drop}
@@ -21,7 +21,7 @@ use Rattle.plan.specs.rules.List.{Site, placesOf, wantedIn, Listed, ByRu
 use Rattle.plan.specs.rules.Sheet.{sideWord, freeWord, sideText, numberedSide, sideIn, sideLine, siteLine, sheetWith, sideOnFields, sideOn, numberPrinted, numberOn, spotsOnLines, spotsOn, carriedLines, carried, joined, butLast}
 use Rattle.plan.specs.deciding.Output.{sheetOf, sheetAt, outputOf, outputAt}
 use Rattle.plan.specs.Demands.{NoRival}
-use Rattle.plan.specs.theorems.Text.{parted-one, parted-more, same-bytes-same, same-bytes-refl, number-decimal, decimal-without, name-without}
+use Rattle.plan.specs.theorems.Text.{parted-one, parted-more, same-bytes-same, same-bytes-refl, number-decimal, decimal-number, decimal-without, name-without}
 use Rattle.plan.specs.theorems.Reading.{list-read}
 use Rattle.plan.specs.theorems.Sheet.{lineOfEach, Lined, no-line, one-more, chosen-lined, answer-listed, side-without, sheet-lines, output-sheet, output-sheet-at}
 
@@ -105,6 +105,18 @@ side-in-text (Number side) = by-test (sameBytes (decimal (side .0)) freeWord) re
         absurd (Option·none-ne-some (side .0) (sym (ap numberIn (same-bytes-same _ _ is)) ∙ number-decimal (side .0)))
     by-test false is = ap numberedSide (number-decimal (side .0))
 side-in-text Free = rw (same-bytes-refl freeWord, sideIn)
+
+-- A side can be written in one way only: whatever is read as a side is what a sheet prints for it.
+pub text-in-side : (text : List ℕ) (side : Side) → sideIn text ≡ some side → text ≡ sideText side
+text-in-side text side = by-test (sameBytes text freeWord) refl (numberIn text) refl
+  where
+    by-test : (t : Bool) → sameBytes text freeWord ≡ t → (o : Option ℕ) → numberIn text ≡ o
+        → elim t [ true ↦ some Free | false ↦ numberedSide o ] ≡ some side → text ≡ sideText side
+    by-test true same o read is =
+        let it : Free ≡ side = cc in same-bytes-same text freeWord same ∙ ap sideText it
+    by-test false other none read is = absurd (Option·none-ne-some side is)
+    by-test false other (some n) read is =
+        let it : Number (record { 0 = n }) ≡ side = cc in decimal-number text n read ∙ ap sideText it
 
 -- The side on a sheet is the one that was written there,
 pub side-on-sheet : {sites : List Site} (a : Answer) → Lined sites (a .corners) → sideOn (sheetWith sites a) ≡ some (a .side)

@@ -6,18 +6,19 @@ use mathlib.Core.Logic.{_≢_}
 use mathlib.Core.Option.{some}
 use Prim.Native.Nat.{ℕ, _*_, _≤_, _<_}
 use native.Mathlib.Omega.{arith}
-use lib.ListN.{length}
+use lib.ListN.{length, take}
 use Rattle.placing.specs.declared.units.Place.{Place}
 use Rattle.placing.specs.declared.units.Side.{Side}
 use Rattle.placing.specs.rules.Units.{siteAt, Distinct}
 use Rattle.placing.specs.rules.Label.{Point, Covers}
 use Rattle.placing.specs.rules.Choice.{cornerAt, Corners, MeetingPair}
-use Rattle.placing.specs.rules.Answer.{Answer, numbered, sideNumber, IsAnswer}
+use Rattle.placing.specs.rules.Answer.{Answer, numbered, sideNumber, IsAnswer, IsChosen}
 use Rattle.placing.specs.theorems.Answer.{answer-unique}
 use Rattle.placing.specs.theorems.CommonPoint.{meet-exactly}
 use Rattle.plan.specs.rules.List.{Site, Listed, placesOf}
-use Rattle.plan.specs.rules.Sheet.{numberOn, spotsOn}
-use Rattle.plan.specs.Demands.{NoRival, RightSheet, PrintsFound, PlacedSheet}
+use Rattle.plan.specs.rules.Sheet.{sideOn, numberOn, spotsOn}
+use Rattle.plan.specs.declared.plan.Written.the-variants.{Bytes}
+use Rattle.plan.specs.Demands.{NoRival, RightSheet, PrintsFound, PlacedSheet, SheetWritten}
 
 -- The labels of some two of these places, at these corners and the side p/q, cover a common point.
 pub record CommonPoint (p q : ℕ) (ps : List Place) (cs : List ℕ) : Type 0 where
@@ -69,3 +70,20 @@ pub placed-common : {sites : List Site} {side : Side} {sheet : List ℕ} → Lis
     → {h : ℕ} {cs : List ℕ} → IsAnswer (placesOf sites) (numbered h cs) → (p q : ℕ) → 1 ≤ q → 2 * h * q < p → (corners : List ℕ)
     → Corners (length (placesOf sites)) corners → CommonPoint p q (placesOf sites) corners
 placed-common listed placed prints = right-common listed (placed .at-found prints)
+
+-- The condition is that the side on the first line is the one found for the spots below it, and nothing more: with a field more in
+-- `PrintsFound` this would not be enough.
+pub placed-right : {sites : List Site} {side : Side} {sheet : List ℕ} → PlacedSheet sites side sheet → {found : Answer}
+    → IsAnswer (spotsOn sheet) found → sideOn sheet ≡ some (found .side) → RightSheet sites sheet
+placed-right placed {found} is printed = placed .at-found (record { found = found; is-answer = is; printed = printed })
+
+-- The corners on a sheet are the first good choice for the spots that are read off it.
+pub placed-on-spots : {sites : List Site} {side : Side} {sheet : List ℕ} (placed : PlacedSheet sites side sheet)
+    → IsChosen (spotsOn sheet) (record { side = side; corners = placed .corners })
+placed-on-spots placed = rw (placed .spots) (placed .is-chosen)
+
+-- What an accepted writing leaves in the buffer is such a sheet.
+pub written-common : {sites : List Site} {side : Side} (n : ℕ) (buffer : List ℕ) → Listed sites → SheetWritten sites side (Bytes n) buffer
+    → PrintsFound (take n buffer) → {h : ℕ} {cs : List ℕ} → IsAnswer (placesOf sites) (numbered h cs) → (p q : ℕ) → 1 ≤ q → 2 * h * q < p
+    → (corners : List ℕ) → Corners (length (placesOf sites)) corners → CommonPoint p q (placesOf sites) corners
+written-common n buffer listed written prints = placed-common listed written prints

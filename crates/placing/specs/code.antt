@@ -5,9 +5,10 @@ pub mod Filled
 pub mod Reach
 pub mod Pairs
 pub mod Crowding
-pub mod Ways
+pub mod Steps
 pub mod Asks
 pub mod Carry
+pub mod CarryTwice
 pub mod Marks
 pub mod CarryOn
 pub mod Fresh

@@ -1,4 +1,4 @@
-// The state from which labels of a side are placed: every corner is open that is not crowded at the side.
+// The state from which labels of a side are placed: every corner is open that the way of placing allows at the side.
 use crate::crowding::Crowding;
 use crate::units::HalfUnits;
 use crate::units::Limits;
@@ -9,7 +9,7 @@ ghost use Rattle.placing.specs.code.Fresh.{OpenByte, FreshState};
 
 // Which corners are open and which is decided, for every site.
 pub(crate) struct State {
-    pub ways: [u8; Limits::WAYS],
+    pub opens: [u8; Limits::ALL_CORNERS],
     pub decided: [u8; Limits::SITES],
 }
 
@@ -24,12 +24,12 @@ fn is_open(reach: HalfUnits, side: HalfUnits) -> u8
 // The state at a side, before anything is decided.
 pub(crate) fn fresh_state(crowding: Crowding, n: usize, side: HalfUnits) -> State
     requires { ⌜ (n ≤ mostSites) × Judged side ⌝ }
-    ensures { λ r. ⌜ FreshState crowding n side (r .ways) (r .decided) ⌝ }
+    ensures { λ r. ⌜ FreshState crowding n side (r .opens) (r .decided) ⌝ }
 {
-    let mut ways = [0u8; Limits::WAYS];
+    let mut opens = [0u8; Limits::ALL_CORNERS];
     for at in 0..4 * n {
-        ways[at] = is_open(HalfUnits(crowding.reaches[at]), side);
+        opens[at] = is_open(HalfUnits(crowding.reaches[at]), side);
     }
     let decided = [0u8; Limits::SITES];
-    State { ways, decided }
+    State { opens, decided }
 }

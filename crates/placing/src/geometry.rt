@@ -76,12 +76,23 @@ fn overlap(side: HalfUnits, d: Direction, a: Units, e: Direction, b: Units) -> b
     }
 }
 
-// The pair test: the label of `s` in the directions `d` meets the label of `t` in the directions `f`. Directions are asked for, not
-// corners: a caller who looks at equal corners reads the table once.
-pub(crate) fn meet(side: HalfUnits, s: Place, d: Directions, t: Place, f: Directions) -> bool
-    requires { ⌜ OnPlan s × OnPlan t × Judged side ⌝ }
-    ensures { λ r. ⌜ ((c e : ℕ) → d ≡ directionsOf c → f ≡ directionsOf e → Decides r (Meet (side .0) 1 s c t e)) ⌝ }
+// The label of a site: where the site stands, and the directions in which the label goes from it. A caller who looks at many labels of a
+// corner reads the table of directions once.
+pub(crate) struct Label {
+    pub site: Place,
+    pub toward: Directions,
+}
+
+// The pair test: the two labels meet.
+pub(crate) fn meet(side: HalfUnits, own: Label, other: Label) -> bool
+    requires { ⌜ OnPlan (own .site) × OnPlan (other .site) × Judged side ⌝ }
+    ensures { λ r. ⌜ ((c e : ℕ) → own .toward ≡ directionsOf c → other .toward ≡ directionsOf e
+        → Decides r (Meet (side .0) 1 (own .site) c (other .site) e)) ⌝ }
 {
+    let s = own.site;
+    let t = other.site;
+    let d = own.toward;
+    let f = other.toward;
     let dx = d.x;
     let fx = f.x;
     let dy = d.y;

@@ -9,3 +9,4 @@ pub mod side;
 pub mod sites;
 pub mod trial;
 pub mod units;
+pub mod way;

@@ -7,6 +7,7 @@ use crate::units::Limits;
 use crate::units::Place;
 use crate::units::Side;
 use crate::units::judged_at;
+use crate::way::Way;
 ghost use mathlib.Core.Path.{_≡_};
 ghost use mathlib.Core.List.{_++_};
 ghost use Prim.Native.Nat.{_*_, _≤_};
@@ -26,17 +27,17 @@ fn clear(table: &mut [u8], m: usize)
     }
 }
 
-// The greatest side of the first `n` of these sites. Of the lent table the first `n` bytes hold marks until the end.
-pub fn find_side(sites: [Place; Limits::SITES], n: usize, table: &mut [u8]) -> Side
+// The greatest side of the first `n` of these sites, by a way. Of the lent table the first `n` bytes hold marks until the end.
+pub fn find_side(sites: [Place; Limits::SITES], n: usize, way: Way, table: &mut [u8]) -> Side
     requires { ⌜ MayPlace n sites (now table) ⌝ }
-    ensures side { λ r. ⌜ r ≡ answerOf (take n sites) .side ⌝ }
+    ensures side { λ r. ⌜ r ≡ answerOf way (take n sites) .side ⌝ }
     ensures table { λ r. ⌜ now (table .exit) ≡ replicate (n * n) 0 ++ drop (n * n) (now (table .entry)) ⌝ }
-    ensures value { λ r. ⌜ sideNumber r ≡ sideNumber (answerOf (take n sites) .side) ⌝ }
+    ensures value { λ r. ⌜ sideNumber r ≡ sideNumber (answerOf way (take n sites) .side) ⌝ }
 {
     let at = coordinates_of(sites, n);
     let xs = at.xs;
     let ys = at.ys;
-    let side = greatest_side(&xs, &ys, n, table);
+    let side = greatest_side(&xs, &ys, n, way, table);
     clear(table, n * n);
     side
 }
@@ -45,17 +46,18 @@ pub fn find_side(sites: [Place; Limits::SITES], n: usize, table: &mut [u8]) -> S
 pub fn choose_corners(
     sites: [Place; Limits::SITES],
     n: usize,
+    way: Way,
     side: Side,
     table: &mut [u8],
 ) -> Choice
     requires { ⌜ MayPlace n sites (now table) × (judgedAt side ≤ freeSide) ⌝ }
-    ensures first { λ r. ⌜ r ≡ choiceAs (firstGood (judgedAt side) (take n sites)) ⌝ }
+    ensures first { λ r. ⌜ r ≡ choiceAs (firstGood way (judgedAt side) (take n sites)) ⌝ }
     ensures table { λ r. ⌜ now (table .exit) ≡ replicate (n * n) 0 ++ drop (n * n) (now (table .entry)) ⌝ }
 {
     let at = coordinates_of(sites, n);
     let xs = at.xs;
     let ys = at.ys;
-    let chosen = first_choice(&xs, &ys, n, judged_at(side), table);
+    let chosen = first_choice(&xs, &ys, n, way, judged_at(side), table);
     clear(table, n * n);
     chosen
 }

@@ -2,15 +2,16 @@
 // leaves none, is tried first, and then what lies below it by bisection.
 use crate::choice::choose;
 use crate::crowding::Crowding;
-use crate::crowding::crowding_of;
+use crate::crowding::reaches_of;
 use crate::units::HalfUnits;
 use crate::units::Limits;
 use crate::units::Side;
+use crate::way::Way;
 ghost use mathlib.Core.Path.{_≡_};
 ghost use Prim.Native.Nat.{_<_};
 ghost use Rattle.placing.specs.deciding.Answer.{answerOf};
 ghost use Rattle.placing.specs.code.Sites.{sitesOf};
-ghost use Rattle.placing.specs.code.Ways.{Kept};
+ghost use Rattle.placing.specs.code.Steps.{Kept};
 ghost use Rattle.placing.specs.code.Placed.{MayFind, MayBisect};
 ghost use Rattle.placing.specs.code.Bisect.{NextIs, MayNarrow, Narrowed, SideIs};
 
@@ -35,18 +36,19 @@ fn narrow(
     xs: &[u32; Limits::SITES],
     ys: &[u32; Limits::SITES],
     n: usize,
+    way: Way,
     crowding: Crowding,
     between: Between,
     marks: &mut [u8],
 ) -> Between
-    requires { ⌜ MayNarrow n (now xs) (now ys) crowding between (now marks) ⌝ }
-    ensures narrowed { λ r. ⌜ Narrowed (sitesOf n (now (xs .entry)) (now (ys .entry))) (crowding .top .0) between r ⌝ }
+    requires { ⌜ MayNarrow n (now xs) (now ys) way crowding between (now marks) ⌝ }
+    ensures narrowed { λ r. ⌜ Narrowed way (sitesOf n (now (xs .entry)) (now (ys .entry))) (crowding .top .0) between r ⌝ }
     ensures kept { λ r. ⌜ Kept n (now (marks .entry)) (now (marks .exit)) ⌝ }
 {
     let low = between.low;
     let high = between.high;
     let side = between.next;
-    let chosen = choose(xs, ys, n, crowding, side, marks);
+    let chosen = choose(xs, ys, n, way, crowding, side, marks);
     if chosen.ok {
         return Between {
             low: side,
@@ -72,16 +74,17 @@ fn side_of(greatest: HalfUnits) -> Side
     }
 }
 
-// The greatest side by bisection. At 1 every choice is good; the top is tried next, since it often has a good choice.
+// The greatest side by bisection. At 1 corner 1 everywhere is good; the top is tried next, since it often has a good choice.
 fn bisect(
     xs: &[u32; Limits::SITES],
     ys: &[u32; Limits::SITES],
     n: usize,
+    way: Way,
     crowding: Crowding,
     marks: &mut [u8],
 ) -> Side
-    requires { ⌜ MayBisect n (now xs) (now ys) crowding (now marks) ⌝ }
-    ensures side { λ r. ⌜ r ≡ answerOf (sitesOf n (now (xs .entry)) (now (ys .entry))) .side ⌝ }
+    requires { ⌜ MayBisect n (now xs) (now ys) way crowding (now marks) ⌝ }
+    ensures side { λ r. ⌜ r ≡ answerOf way (sitesOf n (now (xs .entry)) (now (ys .entry))) .side ⌝ }
     ensures kept { λ r. ⌜ Kept n (now (marks .entry)) (now (marks .exit)) ⌝ }
 {
     let top = crowding.top;
@@ -91,7 +94,7 @@ fn bisect(
         next: top,
     };
     while between.low.below(between.next) {
-        between = narrow(xs, ys, n, crowding, between, marks);
+        between = narrow(xs, ys, n, way, crowding, between, marks);
     }
     side_of(between.low)
 }
@@ -101,12 +104,13 @@ pub(crate) fn greatest_side(
     xs: &[u32; Limits::SITES],
     ys: &[u32; Limits::SITES],
     n: usize,
+    way: Way,
     marks: &mut [u8],
 ) -> Side
     requires { ⌜ MayFind n (now xs) (now ys) (now marks) ⌝ }
-    ensures side { λ r. ⌜ r ≡ answerOf (sitesOf n (now (xs .entry)) (now (ys .entry))) .side ⌝ }
+    ensures side { λ r. ⌜ r ≡ answerOf way (sitesOf n (now (xs .entry)) (now (ys .entry))) .side ⌝ }
     ensures kept { λ r. ⌜ Kept n (now (marks .entry)) (now (marks .exit)) ⌝ }
 {
-    let crowding = crowding_of(xs, ys, n, HalfUnits(Limits::FREE_SIDE));
-    bisect(xs, ys, n, crowding, marks)
+    let crowding = reaches_of(xs, ys, n, way, HalfUnits(Limits::FREE_SIDE));
+    bisect(xs, ys, n, way, crowding, marks)
 }

@@ -7,7 +7,7 @@ ghost use mathlib.Core.Path.{_≡_};
 ghost use Prim.Native.Nat.{_≤_, _<_};
 ghost use Rattle.placing.specs.rules.Units.{mostSites};
 ghost use Rattle.placing.specs.rules.Corner.{Corner};
-ghost use Rattle.placing.specs.search.Rows.{wayOf};
+ghost use Rattle.placing.specs.search.Rows.{indexOf};
 ghost use Rattle.placing.specs.code.Sites.{CoordinatesOf, placeAt};
 
 // The places of a list.
@@ -40,10 +40,10 @@ pub(crate) fn place_at(x: u32, y: u32) -> Place
     }
 }
 
-// Where corner `c` of site `i` stands in an array of `Limits::WAYS`: the corners of a site follow one another, corner 1 first.
-pub(crate) fn way_of(i: usize, c: u8) -> usize
+// Where corner `c` of site `i` stands in an array of `Limits::ALL_CORNERS`: the corners of a site follow one another, corner 1 first.
+pub(crate) fn index_of(i: usize, c: u8) -> usize
     requires { ⌜ (i < mostSites) × Corner c ⌝ }
-    ensures { λ r. ⌜ r ≡ wayOf i c ⌝ }
+    ensures { λ r. ⌜ r ≡ indexOf i c ⌝ }
 {
     4 * i + (c as usize - 1)
 }

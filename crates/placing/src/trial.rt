@@ -2,24 +2,29 @@
 // a site left with one corner is decided too. Four bytes a site say which corners are open, one byte which is decided; a byte
 // of the lent table marks a site whose decision has been carried out. The arrays are lent; a trial keeps a copy
 // of them as they came, to put back where it fails.
+use crate::corner::Directions;
 use crate::corner::directions_of;
+use crate::geometry::Label;
 use crate::geometry::meet;
+use crate::sites::index_of;
 use crate::sites::place_at;
-use crate::sites::way_of;
 use crate::units::HalfUnits;
 use crate::units::Limits;
+use crate::way::Way;
 ghost use mathlib.Core.Path.{_≡_};
 ghost use Prim.Native.Nat.{ℕ, _*_, _≤_, _<_};
 ghost use lib.ListN.{length, set};
-ghost use Rattle.placing.specs.rules.Units.{mostSites};
-ghost use Rattle.placing.specs.rules.Corner.{Corner};
+ghost use Rattle.placing.specs.rules.Units.{mostSites, OnPlan};
+ghost use Rattle.placing.specs.rules.Corner.{Corner, directionsOf};
 ghost use Rattle.placing.specs.search.Rows.{rowOf};
 ghost use Rattle.placing.specs.code.Labels.{labels};
 ghost use Rattle.placing.specs.deciding.Decides.{Decides};
-ghost use Rattle.placing.specs.code.Sites.{HasPlace, Judged};
-ghost use Rattle.placing.specs.code.Ways.{Sizes, oneMore, LeftIs, TakenCorner, ClosedCorner, Clash, CarriedThere, CarriedOut};
-ghost use Rattle.placing.specs.code.Ways.{Waits, FirstWaiting, Kept, markOf, Marked, CarriedOn, Tried};
-ghost use Rattle.placing.specs.code.Asks.{MayCarryTo, MayCarryOut, MayLook, MayCarryOn, MayTry};
+ghost use Rattle.placing.specs.code.Sites.{siteIn, HasPlace, Judged};
+ghost use Rattle.placing.specs.declared.way.Way.{Way};
+ghost use Rattle.placing.specs.search.State.{Every, Only};
+ghost use Rattle.placing.specs.code.Steps.{Sizes, oneMore, LeftIs, TakenCorner, ClosedCorner, labelAt, Clash, CarriedThere, CarriedOut};
+ghost use Rattle.placing.specs.code.Steps.{Waits, FirstWaiting, Kept, markOf, Marked, CarriedOn, Tried};
+ghost use Rattle.placing.specs.code.Asks.{MayCarryTo, MayCarryCorner, MayCarryOut, MayLook, MayCarryOn, MayTry};
 
 // Which corners of a site are open: nothing, one, or more.
 pub(crate) enum Left {
@@ -40,13 +45,13 @@ fn one_more(left: Left, c: u8) -> Left
 }
 
 // How many corners of site `j` are open, by its four bytes.
-fn left_of(ways: &[u8; Limits::WAYS], j: usize) -> Left
-    requires { ⌜ (length (now ways) ≡ 4 * mostSites) × (j < mostSites) ⌝ }
-    ensures { λ r. ⌜ LeftIs r (rowOf (now (ways .entry)) j) ⌝ }
+fn left_of(opens: &[u8; Limits::ALL_CORNERS], j: usize) -> Left
+    requires { ⌜ (length (now opens) ≡ 4 * mostSites) × (j < mostSites) ⌝ }
+    ensures { λ r. ⌜ LeftIs r (rowOf (now (opens .entry)) j) ⌝ }
 {
     let mut left = Left::Nothing;
     for e in 0..Limits::CORNERS {
-        if ways[4 * j + e] == 1 {
+        if opens[4 * j + e] == 1 {
             left = one_more(left, (e + 1) as u8);
         }
     }
@@ -55,17 +60,17 @@ fn left_of(ways: &[u8; Limits::WAYS], j: usize) -> Left
 
 // Closes corner `c` of site `j`, and decides the site where one corner is left. No where none is.
 fn close_corner(
-    ways: &mut [u8; Limits::WAYS],
+    opens: &mut [u8; Limits::ALL_CORNERS],
     decided: &mut [u8; Limits::SITES],
     j: usize,
     c: u8,
 ) -> bool
-    requires { ⌜ Sizes (now ways) (now decided) × (j < mostSites) × Corner c ⌝ }
-    ensures { λ r. ⌜ ClosedCorner (now (ways .entry)) (now (decided .entry)) j c r (now (ways .exit)) (now (decided .exit)) ⌝ }
+    requires { ⌜ Sizes (now opens) (now decided) × (j < mostSites) × Corner c ⌝ }
+    ensures { λ r. ⌜ ClosedCorner (now (opens .entry)) (now (decided .entry)) j c r (now (opens .exit)) (now (decided .exit)) ⌝ }
 {
-    let at = way_of(j, c);
-    ways[at] = 0;
-    let left = left_of(ways, j);
+    let at = index_of(j, c);
+    opens[at] = 0;
+    let left = left_of(opens, j);
     match left {
         Left::Nothing => false,
         Left::One(k) => {
@@ -76,73 +81,114 @@ fn close_corner(
     }
 }
 
-// The labels of sites `k` and `j` at corner `c` clash: they are two sites, and their labels meet.
+// The labels of sites `k`, which is `own`, and `j` clash, the latter in these directions: they are two sites, and their labels meet. Most
+// labels do not meet, so that is asked first.
 fn clash(
     xs: &[u32; Limits::SITES],
     ys: &[u32; Limits::SITES],
     side: HalfUnits,
     k: usize,
-    c: u8,
+    own: Label,
     j: usize,
+    toward: Directions,
 ) -> bool
-    requires { ⌜ HasPlace (now xs) (now ys) k × HasPlace (now xs) (now ys) j × Corner c × Judged side ⌝ }
-    ensures { λ r. ⌜ Decides r (Clash (side .0) (now (xs .entry)) (now (ys .entry)) k c j) ⌝ }
+    requires { ⌜ OnPlan (own .site) × HasPlace (now xs) (now ys) j × Judged side ⌝ }
+    ensures { λ r. ⌜ ((c e : ℕ) → own ≡ labelAt (siteIn (now (xs .entry)) (now (ys .entry)) k) c → toward ≡ directionsOf e
+        → Decides r (Clash (side .0) (now (xs .entry)) (now (ys .entry)) k c j e)) ⌝ }
 {
-    if j == k {
-        return false;
+    let other = Label {
+        site: place_at(xs[j], ys[j]),
+        toward,
+    };
+    if meet(side, own, other) {
+        return j != k;
     }
-    let d = directions_of(c);
-    meet(side, place_at(xs[k], ys[k]), d, place_at(xs[j], ys[j]), d)
+    false
 }
 
-// Carries the decision `c` of site `k` to site `j`: only its corner `c` can meet an uncrowded label at corner `c`. Site `k` itself
-// stays as it is.
+// Carries the decision of site `k`, whose label is `own`, to corner `e` of site `j`, with that corner's directions. Site `k` itself stays
+// as it is.
 fn carry_to(
     xs: &[u32; Limits::SITES],
     ys: &[u32; Limits::SITES],
     side: HalfUnits,
-    ways: &mut [u8; Limits::WAYS],
+    opens: &mut [u8; Limits::ALL_CORNERS],
     decided: &mut [u8; Limits::SITES],
     k: usize,
-    c: u8,
+    own: Label,
     j: usize,
+    e: u8,
+    toward: Directions,
 ) -> bool
-    requires { ⌜ MayCarryTo (now xs) (now ys) side (now ways) (now decided) k c j ⌝ }
-    ensures { λ r. ⌜ ((n : ℕ) → CarriedThere (labels (side .0) n (now (xs .entry)) (now (ys .entry)))
-        (now (ways .entry)) (now (decided .entry)) k j r (now (ways .exit)) (now (decided .exit))) ⌝ }
+    requires { ⌜ MayCarryTo (now xs) (now ys) side (now opens) (now decided) k own j e toward ⌝ }
+    ensures { λ r. ⌜ ((way : Way) (n : ℕ) → CarriedThere (labels way (side .0) n (now (xs .entry)) (now (ys .entry))) (Only e)
+        (now (opens .entry)) (now (decided .entry)) k j r (now (opens .exit)) (now (decided .exit))) ⌝ }
 {
-    let at = way_of(j, c);
-    if ways[at] == 1 {
-        if clash(xs, ys, side, k, c, j) {
-            return close_corner(ways, decided, j, c);
+    let at = index_of(j, e);
+    if opens[at] == 1 {
+        if clash(xs, ys, side, k, own, j, toward) {
+            return close_corner(opens, decided, j, e);
         }
     }
     true
 }
 
-// Carries the decision of site `k` to all others. No where one is left with no corner. It closes no corner of a site below
-// `from`.
-fn carry_out(
+// Carries the decision of site `k` to corner `e` of all others. No where one is left with no corner. It closes no corner of a site
+// below `from`.
+fn carry_corner(
     xs: &[u32; Limits::SITES],
     ys: &[u32; Limits::SITES],
     n: usize,
     side: HalfUnits,
-    ways: &mut [u8; Limits::WAYS],
+    opens: &mut [u8; Limits::ALL_CORNERS],
     decided: &mut [u8; Limits::SITES],
     k: usize,
+    e: u8,
     from: usize,
 ) -> bool
-    requires { ⌜ MayCarryOut n (now xs) (now ys) side (now ways) (now decided) k from ⌝ }
-    ensures { λ r. ⌜ CarriedOut (labels (side .0) n (now (xs .entry)) (now (ys .entry)))
-        (now (ways .entry)) (now (decided .entry)) k r (now (ways .exit)) (now (decided .exit)) ⌝ }
+    requires { ⌜ MayCarryCorner n (now xs) (now ys) side (now opens) (now decided) k e from ⌝ }
+    ensures { λ r. ⌜ ((way : Way) → CarriedOut (labels way (side .0) n (now (xs .entry)) (now (ys .entry))) (Only e)
+        (now (opens .entry)) (now (decided .entry)) k r (now (opens .exit)) (now (decided .exit))) ⌝ }
 {
-    let c = decided[k];
+    let own = Label {
+        site: place_at(xs[k], ys[k]),
+        toward: directions_of(decided[k]),
+    };
+    let toward = directions_of(e);
     for j in from..n {
-        if !carry_to(xs, ys, side, ways, decided, k, c, j) {
+        if !carry_to(xs, ys, side, opens, decided, k, own, j, e, toward) {
             return false;
         }
     }
     true
+}
+
+// Carries the decision of site `k` to all others. Uncrowded labels meet at equal corners only; above, both corners are looked at.
+fn carry_out(
+    xs: &[u32; Limits::SITES],
+    ys: &[u32; Limits::SITES],
+    n: usize,
+    way: Way,
+    side: HalfUnits,
+    opens: &mut [u8; Limits::ALL_CORNERS],
+    decided: &mut [u8; Limits::SITES],
+    k: usize,
+    from: usize,
+) -> bool
+    requires { ⌜ MayCarryOut n (now xs) (now ys) way side (now opens) (now decided) k from ⌝ }
+    ensures { λ r. ⌜ CarriedOut (labels way (side .0) n (now (xs .entry)) (now (ys .entry))) Every
+        (now (opens .entry)) (now (decided .entry)) k r (now (opens .exit)) (now (decided .exit)) ⌝ }
+{
+    let c = decided[k];
+    match way {
+        Way::Usual => carry_corner(xs, ys, n, side, opens, decided, k, c, from),
+        Way::Above => {
+            if !carry_corner(xs, ys, n, side, opens, decided, k, 1, from) {
+                return false;
+            }
+            carry_corner(xs, ys, n, side, opens, decided, k, 2, from)
+        }
+    }
 }
 
 // Site `k` waits: it is decided and not marked. The arrays are lent, so that a marked site costs one byte read.
@@ -174,20 +220,21 @@ fn mark_and_carry(
     xs: &[u32; Limits::SITES],
     ys: &[u32; Limits::SITES],
     n: usize,
+    way: Way,
     side: HalfUnits,
-    ways: &mut [u8; Limits::WAYS],
+    opens: &mut [u8; Limits::ALL_CORNERS],
     decided: &mut [u8; Limits::SITES],
     marks: &mut [u8],
     k: usize,
     from: usize,
 ) -> bool
-    requires { ⌜ MayCarryOut n (now xs) (now ys) side (now ways) (now decided) k from × (n ≤ length (now marks)) ⌝ }
-    ensures carried { λ r. ⌜ CarriedOut (labels (side .0) n (now (xs .entry)) (now (ys .entry)))
-        (now (ways .entry)) (now (decided .entry)) k r (now (ways .exit)) (now (decided .exit)) ⌝ }
+    requires { ⌜ MayCarryOut n (now xs) (now ys) way side (now opens) (now decided) k from × (n ≤ length (now marks)) ⌝ }
+    ensures carried { λ r. ⌜ CarriedOut (labels way (side .0) n (now (xs .entry)) (now (ys .entry))) Every
+        (now (opens .entry)) (now (decided .entry)) k r (now (opens .exit)) (now (decided .exit)) ⌝ }
     ensures marked { λ r. ⌜ now (marks .exit) ≡ set (now (marks .entry)) k 1 ⌝ }
 {
     marks[k] = 1;
-    carry_out(xs, ys, n, side, ways, decided, k, from)
+    carry_out(xs, ys, n, way, side, opens, decided, k, from)
 }
 
 // Carries out every decision that is not marked, and marks it. No where a site is left with no corner. The sites below `from` are
@@ -196,15 +243,16 @@ fn carry_on(
     xs: &[u32; Limits::SITES],
     ys: &[u32; Limits::SITES],
     n: usize,
+    way: Way,
     side: HalfUnits,
-    ways: &mut [u8; Limits::WAYS],
+    opens: &mut [u8; Limits::ALL_CORNERS],
     decided: &mut [u8; Limits::SITES],
     marks: &mut [u8],
     from: usize,
 ) -> bool
-    requires { ⌜ MayCarryOn n (now xs) (now ys) side (now ways) (now decided) (now marks) from ⌝ }
-    ensures carried { λ r. ⌜ CarriedOn (labels (side .0) n (now (xs .entry)) (now (ys .entry)))
-        (now (ways .entry)) (now (decided .entry)) r (now (ways .exit)) (now (decided .exit)) ⌝ }
+    requires { ⌜ MayCarryOn n (now xs) (now ys) way side (now opens) (now decided) (now marks) from ⌝ }
+    ensures carried { λ r. ⌜ CarriedOn (labels way (side .0) n (now (xs .entry)) (now (ys .entry)))
+        (now (opens .entry)) (now (decided .entry)) r (now (opens .exit)) (now (decided .exit)) ⌝ }
     ensures kept { λ r. ⌜ Kept n (now (marks .entry)) (now (marks .exit)) ⌝ }
 {
     loop {
@@ -212,7 +260,7 @@ fn carry_on(
         if k == n {
             return true;
         }
-        if !mark_and_carry(xs, ys, n, side, ways, decided, marks, k, from) {
+        if !mark_and_carry(xs, ys, n, way, side, opens, decided, marks, k, from) {
             return false;
         }
     }
@@ -237,15 +285,20 @@ fn mark(decided: &[u8; Limits::SITES], marks: &mut [u8], n: usize)
 }
 
 // Decides corner `c` of site `i`, which closes the site's other corners.
-fn take_corner(ways: &mut [u8; Limits::WAYS], decided: &mut [u8; Limits::SITES], i: usize, c: u8)
-    requires { ⌜ Sizes (now ways) (now decided) × (i < mostSites) × Corner c ⌝ }
-    ensures { λ r. ⌜ TakenCorner (now (ways .entry)) (now (decided .entry)) i c (now (ways .exit)) (now (decided .exit)) ⌝ }
+fn take_corner(
+    opens: &mut [u8; Limits::ALL_CORNERS],
+    decided: &mut [u8; Limits::SITES],
+    i: usize,
+    c: u8,
+)
+    requires { ⌜ Sizes (now opens) (now decided) × (i < mostSites) × Corner c ⌝ }
+    ensures { λ r. ⌜ TakenCorner (now (opens .entry)) (now (decided .entry)) i c (now (opens .exit)) (now (decided .exit)) ⌝ }
 {
     for e in 0..Limits::CORNERS {
-        ways[4 * i + e] = 0;
+        opens[4 * i + e] = 0;
     }
-    let at = way_of(i, c);
-    ways[at] = 1;
+    let at = index_of(i, c);
+    opens[at] = 1;
     decided[i] = c;
 }
 
@@ -254,26 +307,27 @@ pub(crate) fn try_corner(
     xs: &[u32; Limits::SITES],
     ys: &[u32; Limits::SITES],
     n: usize,
+    way: Way,
     side: HalfUnits,
-    ways: &mut [u8; Limits::WAYS],
+    opens: &mut [u8; Limits::ALL_CORNERS],
     decided: &mut [u8; Limits::SITES],
     marks: &mut [u8],
     i: usize,
     c: u8,
 ) -> bool
-    requires { ⌜ MayTry n (now xs) (now ys) side (now ways) (now decided) (now marks) i c ⌝ }
-    ensures tried { λ r. ⌜ Tried (labels (side .0) n (now (xs .entry)) (now (ys .entry)))
-        (now (ways .entry)) (now (decided .entry)) i c r (now (ways .exit)) (now (decided .exit)) ⌝ }
+    requires { ⌜ MayTry n (now xs) (now ys) way side (now opens) (now decided) (now marks) i c ⌝ }
+    ensures tried { λ r. ⌜ Tried (labels way (side .0) n (now (xs .entry)) (now (ys .entry)))
+        (now (opens .entry)) (now (decided .entry)) i c r (now (opens .exit)) (now (decided .exit)) ⌝ }
     ensures kept { λ r. ⌜ Kept n (now (marks .entry)) (now (marks .exit)) ⌝ }
 {
-    let ways_before = *ways;
+    let opens_before = *opens;
     let decided_before = *decided;
     mark(decided, marks, n);
-    take_corner(ways, decided, i, c);
-    if carry_on(xs, ys, n, side, ways, decided, marks, i) {
+    take_corner(opens, decided, i, c);
+    if carry_on(xs, ys, n, way, side, opens, decided, marks, i) {
         return true;
     }
-    *ways = ways_before;
+    *opens = opens_before;
     *decided = decided_before;
     false
 }

@@ -43,7 +43,7 @@ impl Limits {
     // The corners of a site.
     pub const CORNERS: usize = 4;
     // A place for each corner of each site, one site after another.
-    pub const WAYS: usize = Limits::CORNERS * Limits::SITES;
+    pub const ALL_CORNERS: usize = Limits::CORNERS * Limits::SITES;
     // The greatest coordinate, in units.
     pub const COORDINATE: u32 = 10_000;
     // The least and the greatest side, in half units.

@@ -10,43 +10,46 @@ use native.Mathlib.Decide.{ℕ-discrete}
 use native.Mathlib.Omega.{arith}
 use lib.ListN.{length, getD, set, length-set}
 use lib.Seq.{getD-set-same, getD-set-other}
+use Rattle.placing.specs.declared.corner.Directions.{Directions}
+use Rattle.placing.specs.declared.geometry.Label.{Label}
 use Rattle.placing.specs.declared.units.HalfUnits.{HalfUnits}
-use Rattle.placing.specs.rules.Corner.{Corner}
+use Rattle.placing.specs.declared.way.Way.{Way}
+use Rattle.placing.specs.rules.Corner.{Corner, directionsOf}
 use Rattle.placing.specs.rules.Units.{mostSites}
 use Rattle.placing.specs.rules.Choice.{cornerAt}
 use Rattle.placing.specs.search.Problem.{Problem}
-use Rattle.placing.specs.search.Rows.{wayOf, rowOf, row-zero, row-at, open-corner, row-same, row-written, row-kept, row-elsewhere}
-use Rattle.placing.specs.search.State.{SomeOpen, TwoOpen, CarriedTo}
-use Rattle.placing.specs.code.Sites.{held-place}
+use Rattle.placing.specs.search.Rows.{indexOf, rowOf, row-zero, row-at, open-corner, row-same, row-written, row-kept, row-elsewhere}
+use Rattle.placing.specs.search.State.{SomeOpen, TwoOpen, Only, CarriedTo}
+use Rattle.placing.specs.code.Sites.{siteIn, held-place}
 use Rattle.placing.specs.code.Filled.{Filled, filled-elsewhere}
 use Rattle.placing.specs.code.Labels.{labels}
-use Rattle.placing.specs.code.Asks.{MayCarryTo, MayCarryOut}
-use Rattle.placing.specs.code.Ways.{Sizes, Lone, NoneOpen, TakenCorner, ClosedCorner, Settled, Clash, CarriedThere, CarriedOut}
+use Rattle.placing.specs.code.Asks.{MayCarryTo, MayCarry, MayCarryCorner}
+use Rattle.placing.specs.code.Steps.{Sizes, Lone, NoneOpen, TakenCorner, ClosedCorner, Settled, labelAt, Clash, CarriedThere, CarriedOut}
 
 -- All corners of site i are closed.
-abbrev pub Cleared : (i e : ℕ) (ways ways′ : List ℕ) → Type 0
+abbrev pub Cleared : (i e : ℕ) (opens opens′ : List ℕ) → Type 0
 Cleared i = Filled 0 (λ k byte. byte ≡ 0) (4 * i)
 
 -- The bytes with corner c of site j written as v.
 abbrev written : List ℕ → ℕ → ℕ → ℕ → List ℕ
-written ways j c v = set ways (wayOf j c) v
+written opens j c v = set opens (indexOf j c) v
 
 -- Clearing a site and writing one corner takes that corner.
-pub taken-corner : {ways cleared decided : List ℕ} {i c : ℕ} → Sizes ways decided → i < mostSites → Corner c → Cleared i 4 ways cleared
-    → TakenCorner ways decided i c (written cleared i c 1) (set decided i c)
-taken-corner {ways} {cleared} {decided} {i} {c} sizes listed corner zeros =
+pub taken-corner : {opens cleared decided : List ℕ} {i c : ℕ} → Sizes opens decided → i < mostSites → Corner c → Cleared i 4 opens cleared
+    → TakenCorner opens decided i c (written cleared i c 1) (set decided i c)
+taken-corner {opens} {cleared} {decided} {i} {c} sizes listed corner zeros =
     record {
-      sizes = record { ways-size = simp length-set size; decided-size = simp length-set (sizes .decided-size) };
+      sizes = record { opens-size = simp length-set size; decided-size = simp length-set (sizes .decided-size) };
       lone = record { is-open = row-written cleared i c 1 corner (omega (arith, size)); alone = λ e. alone e (ℕ-discrete e c) };
       takes = getD-set-same decided i c 0 (omega arith);
       elsewhere = λ j different.
           row-elsewhere cleared i c 1 corner j different
-          ∙ fun-ext (λ e. row-same ways cleared j e (filled-elsewhere zeros j e different));
+          ∙ fun-ext (λ e. row-same opens cleared j e (filled-elsewhere zeros j e different));
       decided-elsewhere = λ j different. getD-set-other decided i j c 0 different;
     }
   where
     size : length cleared ≡ 4 * mostSites
-    size = zeros .size ∙ sizes .ways-size
+    size = zeros .size ∙ sizes .opens-size
 
     alone : (e : ℕ) → Dec (e ≡ c) → rowOf (written cleared i c 1) i e ≡ 1 → e ≡ c
     alone e (yes same) is-open = same
@@ -55,34 +58,34 @@ taken-corner {ways} {cleared} {decided} {i} {c} sizes listed corner zeros =
         let there = open-corner cleared i e was-open in
         absurd (omega (arith, row-at cleared i e there, zeros .there (e - 1) (omega arith)))
 
-module _ (ways decided : List ℕ) (j c : ℕ) (sizes : Sizes ways decided) (listed : j < mostSites) (corner : Corner c) where
+module _ (opens decided : List ℕ) (j c : ℕ) (sizes : Sizes opens decided) (listed : j < mostSites) (corner : Corner c) where
   -- Closing a corner, whatever is left of the site and decided for it.
   closed-corner : (ok : Bool) (decided′ : List ℕ) → length decided′ ≡ mostSites
       → ((i : ℕ) → i ≢ j → cornerAt decided′ i ≡ cornerAt decided i)
-      → (ok ≡ false → NoneOpen (rowOf (written ways j c 0) j))
+      → (ok ≡ false → NoneOpen (rowOf (written opens j c 0) j))
       → (ok ≡ true
-      → Lone (rowOf (written ways j c 0) j) (cornerAt decided′ j)
-      ⊎ (SomeOpen (rowOf (written ways j c 0) j) × (cornerAt decided′ j ≡ cornerAt decided j)))
-      → ClosedCorner ways decided j c ok (written ways j c 0) decided′
+      → Lone (rowOf (written opens j c 0) j) (cornerAt decided′ j)
+      ⊎ (SomeOpen (rowOf (written opens j c 0) j) × (cornerAt decided′ j ≡ cornerAt decided j)))
+      → ClosedCorner opens decided j c ok (written opens j c 0) decided′
   closed-corner ok decided′ size decided-elsewhere none-left some-left =
       record {
-        sizes = record { ways-size = simp length-set (sizes .ways-size); decided-size = size };
-        shut = λ is-open. omega (arith, row-written ways j c 0 corner (omega arith));
-        kept = row-kept ways j c 0 corner;
-        elsewhere = row-elsewhere ways j c 0 corner;
+        sizes = record { opens-size = simp length-set (sizes .opens-size); decided-size = size };
+        shut = λ is-open. omega (arith, row-written opens j c 0 corner (omega arith));
+        kept = row-kept opens j c 0 corner;
+        elsewhere = row-elsewhere opens j c 0 corner;
         decided-elsewhere = decided-elsewhere;
         none-left = none-left;
         some-left = some-left;
       }
 
   -- It leaves none.
-  pub closed-none : NoneOpen (rowOf (written ways j c 0) j) → ClosedCorner ways decided j c false (written ways j c 0) decided
+  pub closed-none : NoneOpen (rowOf (written opens j c 0) j) → ClosedCorner opens decided j c false (written opens j c 0) decided
   closed-none none =
       closed-corner false decided (sizes .decided-size) (λ i different. refl) (λ e. none) (λ e. absurd (true≢false (sym e)))
 
   -- It leaves one, which is decided.
-  pub closed-lone : (k : ℕ) → Lone (rowOf (written ways j c 0) j) k
-      → ClosedCorner ways decided j c true (written ways j c 0) (set decided j k)
+  pub closed-lone : (k : ℕ) → Lone (rowOf (written opens j c 0) j) k
+      → ClosedCorner opens decided j c true (written opens j c 0) (set decided j k)
   closed-lone k lone =
       closed-corner true (set decided j k) (simp length-set (sizes .decided-size))
       (λ i different. getD-set-other decided j i k 0 different)
@@ -90,14 +93,15 @@ module _ (ways decided : List ℕ) (j c : ℕ) (sizes : Sizes ways decided) (lis
       (λ e. inl (rw (getD-set-same decided j k 0 (omega arith)) lone))
 
   -- It leaves more.
-  pub closed-some : SomeOpen (rowOf (written ways j c 0) j) → ClosedCorner ways decided j c true (written ways j c 0) decided
+  pub closed-some : SomeOpen (rowOf (written opens j c 0) j) → ClosedCorner opens decided j c true (written opens j c 0) decided
   closed-some some =
       closed-corner true decided (sizes .decided-size) (λ i different. refl) (λ e. absurd (true≢false e)) (λ e. inr (some, refl))
 
-module _ (P : Problem) (ways decided : List ℕ) (k j : ℕ) (settled : Settled ways decided j) where
-  -- Where no open corner of site j is in conflict, nothing is to be done.
-  carried-same : Sizes ways decided → (j ≢ k → (e : ℕ) → rowOf ways j e ≡ 1 → P .Conflict k (cornerAt decided k) j e → ⊥)
-      → CarriedThere P ways decided k j true ways decided
+module _ (P : Problem) (opens decided : List ℕ) (k j : ℕ) (settled : Settled opens decided j) where
+  -- Where no open corner of site j that is looked at is in conflict, nothing is to be done.
+  carried-same : {Looked : ℕ → Type 0} → Sizes opens decided
+      → (j ≢ k → (e : ℕ) → Looked e → rowOf opens j e ≡ 1 → P .Conflict k (cornerAt decided k) j e → ⊥)
+      → CarriedThere P Looked opens decided k j true opens decided
   carried-same sizes apart =
       record {
         sizes = sizes;
@@ -119,12 +123,11 @@ module _ (P : Problem) (ways decided : List ℕ) (k j : ℕ) (settled : Settled 
         stuck = λ e. absurd (true≢false e);
       }
 
-  -- Where corner c of site j is closed, the only open one in conflict, the decision is carried there.
-  carried-closed : (c : ℕ) (ok : Bool) (ways′ decided′ : List ℕ) → j ≢ k → rowOf ways j c ≡ 1 → P .Conflict k (cornerAt decided k) j c
-      → ((e : ℕ) → rowOf ways j e ≡ 1 → P .Conflict k (cornerAt decided k) j e → e ≡ c)
-      → ClosedCorner ways decided j c ok ways′ decided′
-      → CarriedThere P ways decided k j ok ways′ decided′
-  carried-closed c ok ways′ decided′ different was-open conflict only closed =
+  -- Where corner c of site j is closed, which was open and in conflict, the decision is carried there, with c looked at.
+  carried-closed : (c : ℕ) (ok : Bool) (opens′ decided′ : List ℕ) → j ≢ k → rowOf opens j c ≡ 1 → P .Conflict k (cornerAt decided k) j c
+      → ClosedCorner opens decided j c ok opens′ decided′
+      → CarriedThere P (Only c) opens decided k j ok opens′ decided′
+  carried-closed c ok opens′ decided′ different was-open conflict closed =
       record {
         sizes = closed .sizes;
         elsewhere = closed .elsewhere;
@@ -136,46 +139,46 @@ module _ (P : Problem) (ways decided : List ℕ) (k j : ℕ) (settled : Settled 
         stuck = λ no-ok e was. ⊎-elim (λ still. absurd (closed .none-left no-ok .none-open e still)) (λ x. x) (keeps e was);
       }
     where
-      keeps : (e : ℕ) → rowOf ways j e ≡ 1 → (rowOf ways′ j e ≡ 1) ⊎ P .Conflict k (cornerAt decided k) j e
+      keeps : (e : ℕ) → rowOf opens j e ≡ 1 → (rowOf opens′ j e ≡ 1) ⊎ P .Conflict k (cornerAt decided k) j e
       keeps e was = from (ℕ-discrete e c)
         where
-          from : Dec (e ≡ c) → (rowOf ways′ j e ≡ 1) ⊎ P .Conflict k (cornerAt decided k) j e
+          from : Dec (e ≡ c) → (rowOf opens′ j e ≡ 1) ⊎ P .Conflict k (cornerAt decided k) j e
           from (yes p) = inr (rw p conflict)
           from (no d) = inl (closed .kept e d ∙ was)
 
-      other : (e : ℕ) → rowOf ways′ j e ≡ 1 → e ≢ c
+      other : (e : ℕ) → rowOf opens′ j e ≡ 1 → e ≢ c
       other e still p = closed .shut (rw p at still)
 
-      closes : (e : ℕ) → rowOf ways′ j e ≡ 1 → rowOf ways j e ≡ 1
+      closes : (e : ℕ) → rowOf opens′ j e ≡ 1 → rowOf opens j e ≡ 1
       closes e still = sym (closed .kept e (other e still)) ∙ still
 
       -- A decided site had no other corner open, so none is left.
-      none-decided : (e : ℕ) → rowOf ways′ j e ≡ 1 → cornerAt decided j ≢ 0 → ⊥
+      none-decided : (e : ℕ) → rowOf opens′ j e ≡ 1 → cornerAt decided j ≢ 0 → ⊥
       none-decided e still d =
           let lone = settled .settled d in
           other e still (lone .alone e (closes e still) ∙ sym (lone .alone c was-open))
 
       Left′ : Type 0
       Left′ =
-          Lone (rowOf ways′ j) (cornerAt decided′ j) ⊎ (SomeOpen (rowOf ways′ j) × (cornerAt decided′ j ≡ cornerAt decided j))
+          Lone (rowOf opens′ j) (cornerAt decided′ j) ⊎ (SomeOpen (rowOf opens′ j) × (cornerAt decided′ j ≡ cornerAt decided j))
 
       undecided : Left′ → cornerAt decided j ≢ 0 → ⊥
       undecided (inl lone) = none-decided (cornerAt decided′ j) (lone .is-open)
       undecided (inr some) = none-decided (some .0 .one) (some .0 .one-open)
 
-      decides : Left′ → cornerAt decided j ≡ 0 → cornerAt decided′ j ≢ 0 → Lone (rowOf ways′ j) (cornerAt decided′ j)
+      decides : Left′ → cornerAt decided j ≡ 0 → cornerAt decided′ j ≢ 0 → Lone (rowOf opens′ j) (cornerAt decided′ j)
       decides (inl lone) free taken = lone
       decides (inr some) free taken = absurd (taken (some .1 ∙ free))
 
-      two-left : Left′ → cornerAt decided′ j ≡ 0 → TwoOpen ways′ j
-      two-left (inl lone) free = absurd (omega (arith, row-zero ways′ j, rw free at (lone .is-open)))
+      two-left : Left′ → cornerAt decided′ j ≡ 0 → TwoOpen opens′ j
+      two-left (inl lone) free = absurd (omega (arith, row-zero opens′ j, rw free at (lone .is-open)))
       two-left (inr some) free = some .0
 
-      carried : Left′ → CarriedTo P ways decided k j ways′ decided′
+      carried : Left′ → CarriedTo P (Only c) opens decided k j opens′ decided′
       carried left =
           record {
             closes = closes;
-            apart = λ e still conflict. other e still (only e (closes e still) conflict);
+            apart = λ e same still conflict. other e still same;
             keeps = keeps;
             stays-decided = λ d. absurd (undecided left d);
             stays-open = λ d. absurd (undecided left d);
@@ -184,35 +187,29 @@ module _ (P : Problem) (ways decided : List ℕ) (k j : ℕ) (settled : Settled 
             two-left = λ e free was-open shut. two-left left free;
           }
 
-module _ (xs ys : List ℕ) (side : HalfUnits) (ways decided : List ℕ) (k c j : ℕ)
-    (may : MayCarryTo xs ys side ways decided k c j) where
-  -- Carrying the decision c of site k to site j: its open corner c meets the label of site k, and was closed.
-  pub carried-meeting : (ok : Bool) (ways′ decided′ : List ℕ) → getD ways (wayOf j c) 0 ≡ 1
-      → Clash (side .0) xs ys k c j → ClosedCorner ways decided j c ok ways′ decided′
-      → (n : ℕ) → CarriedThere (labels (side .0) n xs ys) ways decided k j ok ways′ decided′
-  carried-meeting ok ways′ decided′ is-open clash closed n =
-      carried-closed (labels (side .0) n xs ys) ways decided k j (may .settled) c ok ways′ decided′ (clash .different)
-      (row-at ways j c (may .corner) ∙ is-open)
-      (rw (← may .is-decided) (clash .meets))
-      (rw (← may .is-decided) (may .only-equal (clash .different) .equal))
-      closed
+module _ {xs ys : List ℕ} {side : HalfUnits} {opens decided : List ℕ} {k : ℕ} {own : Label} {j e : ℕ} {toward : Directions}
+    (may : MayCarryTo xs ys side opens decided k own j e toward) where
+  -- Carrying the decision of site k to corner e of site j: it is open, meets the label of site k, and was closed.
+  pub carried-meeting : (ok : Bool) (opens′ decided′ : List ℕ) → getD opens (indexOf j e) 0 ≡ 1
+      → Clash (side .0) xs ys k (cornerAt decided k) j e → ClosedCorner opens decided j e ok opens′ decided′
+      → (way : Way) (n : ℕ) → CarriedThere (labels way (side .0) n xs ys) (Only e) opens decided k j ok opens′ decided′
+  carried-meeting ok opens′ decided′ is-open clash closed way n =
+      carried-closed (labels way (side .0) n xs ys) opens decided k j (may .settled) e ok opens′ decided′ (clash .different)
+      (row-at opens j e (may .corner) ∙ is-open) (clash .meets) closed
 
-  -- Its corner c is not open, or does not meet the label of site k.
-  pub carried-apart : (getD ways (wayOf j c) 0 ≡ 1 → Clash (side .0) xs ys k c j → ⊥)
-      → (n : ℕ) → CarriedThere (labels (side .0) n xs ys) ways decided k j true ways decided
-  carried-apart apart n =
-      carried-same (labels (side .0) n xs ys) ways decided k j (may .settled) (may .sizes)
-      (λ different.
-      rw (← may .is-decided)
-      (λ e is-open meets.
-      let same : e ≡ c = may .only-equal different .equal e is-open meets in
-      apart (sym (row-at ways j c (may .corner)) ∙ rw same at is-open) (record { different = different; meets = rw same at meets })))
+  -- It is not open, or does not meet the label of site k.
+  pub carried-apart : (getD opens (indexOf j e) 0 ≡ 1 → Clash (side .0) xs ys k (cornerAt decided k) j e → ⊥)
+      → (way : Way) (n : ℕ) → CarriedThere (labels way (side .0) n xs ys) (Only e) opens decided k j true opens decided
+  carried-apart apart way n =
+      carried-same (labels way (side .0) n xs ys) opens decided k j (may .settled) (may .sizes)
+      (λ different f same is-open meets.
+      apart (sym (row-at opens j e (may .corner)) ∙ rw same at is-open) (record { different = different; meets = rw same at meets }))
 
 -- What carrying out does to site j is of its row and decision, and of the decision of site k.
-carried-moved : {P : Problem} {ways ways₁ ways′ ways₁′ decided decided₁ decided′ decided₁′ : List ℕ} {k j : ℕ}
-    → rowOf ways j ≡ rowOf ways₁ j → cornerAt decided j ≡ cornerAt decided₁ j → cornerAt decided k ≡ cornerAt decided₁ k
-    → rowOf ways′ j ≡ rowOf ways₁′ j → cornerAt decided′ j ≡ cornerAt decided₁′ j → CarriedTo P ways decided k j ways′ decided′
-    → CarriedTo P ways₁ decided₁ k j ways₁′ decided₁′
+carried-moved : {P : Problem} {Looked : ℕ → Type 0} {opens opens₁ opens′ opens₁′ decided decided₁ decided′ decided₁′ : List ℕ} {k j : ℕ}
+    → rowOf opens j ≡ rowOf opens₁ j → cornerAt decided j ≡ cornerAt decided₁ j → cornerAt decided k ≡ cornerAt decided₁ k
+    → rowOf opens′ j ≡ rowOf opens₁′ j → cornerAt decided′ j ≡ cornerAt decided₁′ j → CarriedTo P Looked opens decided k j opens′ decided′
+    → CarriedTo P Looked opens₁ decided₁ k j opens₁′ decided₁′
 carried-moved rows decision own rows′ decision′ carried =
     record {
       closes = rw (rows, rows′) at (carried .closes);
@@ -226,40 +223,40 @@ carried-moved rows decision own rows′ decision′ carried =
     }
 
 -- Site i is as it was.
-pub record SameSite (ways decided ways′ decided′ : List ℕ) (i : ℕ) : Type 0 where
-  pub row : rowOf ways′ i ≡ rowOf ways i
+pub record SameSite (opens decided opens′ decided′ : List ℕ) (i : ℕ) : Type 0 where
+  pub row : rowOf opens′ i ≡ rowOf opens i
   pub decision : cornerAt decided′ i ≡ cornerAt decided i
 
 -- The decision of site k was carried to the other sites below j; the sites from j on, and k, are as they were.
-pub record CarriedBelow (P : Problem) (ways₀ decided₀ : List ℕ) (k j : ℕ) (ways decided : List ℕ) : Type 0 where
-  pub sizes : Sizes ways decided
-  pub carried : (i : ℕ) → i < j → i ≢ k → CarriedTo P ways₀ decided₀ k i ways decided
-  pub later : (i : ℕ) → j ≤ i → SameSite ways₀ decided₀ ways decided i
-  pub own : SameSite ways₀ decided₀ ways decided k
+pub record CarriedBelow (P : Problem) (Looked : ℕ → Type 0) (opens₀ decided₀ : List ℕ) (k j : ℕ) (opens decided : List ℕ) : Type 0 where
+  pub sizes : Sizes opens decided
+  pub carried : (i : ℕ) → i < j → i ≢ k → CarriedTo P Looked opens₀ decided₀ k i opens decided
+  pub later : (i : ℕ) → j ≤ i → SameSite opens₀ decided₀ opens decided i
+  pub own : SameSite opens₀ decided₀ opens decided k
 
 -- It starts at site `from`: below it nothing is to be done.
-pub carried-start : {n : ℕ} {xs ys : List ℕ} {side : HalfUnits} {ways decided : List ℕ} {k from : ℕ}
-    → MayCarryOut n xs ys side ways decided k from → CarriedBelow (labels (side .0) n xs ys) ways decided k from ways decided
-carried-start {n} {xs} {ys} {side} {ways} {decided} {k} may =
+pub carried-start : {n : ℕ} {xs ys : List ℕ} {side : HalfUnits} {opens decided : List ℕ} {k from : ℕ} {Looked : ℕ → Type 0} (way : Way)
+    → MayCarry n xs ys side opens decided k from → CarriedBelow (labels way (side .0) n xs ys) Looked opens decided k from opens decided
+carried-start {n} {xs} {ys} {side} {opens} {decided} {k} way may =
     record {
       sizes = may .sizes;
       carried = λ i below different.
-          carried-same (labels (side .0) n xs ys) ways decided k i
+          carried-same (labels way (side .0) n xs ys) opens decided k i
           (may .settled .all-settled i (lt-of-lt-of-le below (may .inside)))
           (may .sizes)
-          (λ other. may .apart-below i below other .apart)
+          (λ other e looked. may .apart-below i below other .apart e)
           .carried refl different;
       later = λ i reached. as-is i;
       own = as-is k;
     }
   where
-    as-is : (i : ℕ) → SameSite ways decided ways decided i
+    as-is : (i : ℕ) → SameSite opens decided opens decided i
     as-is i = record { row = refl; decision = refl }
 
-module _ {P : Problem} {ways₀ decided₀ : List ℕ} {k j : ℕ} {ways decided : List ℕ}
-    (below : CarriedBelow P ways₀ decided₀ k j ways decided) where
+module _ {P : Problem} {Looked : ℕ → Type 0} {opens₀ decided₀ : List ℕ} {k j : ℕ} {opens decided : List ℕ}
+    (below : CarriedBelow P Looked opens₀ decided₀ k j opens decided) where
   -- After all sites the decision is carried out.
-  pub carried-all : P .n ≤ j → CarriedOut P ways₀ decided₀ k true ways decided
+  pub carried-all : P .n ≤ j → CarriedOut P Looked opens₀ decided₀ k true opens decided
   carried-all end =
       record {
         sizes = below .sizes;
@@ -271,9 +268,9 @@ module _ {P : Problem} {ways₀ decided₀ : List ℕ} {k j : ℕ} {ways decided
         stuck = λ e. absurd (true≢false e);
       }
 
-  module _ {ok : Bool} {ways′ decided′ : List ℕ} (there : CarriedThere P ways decided k j ok ways′ decided′) where
+  module _ {ok : Bool} {opens′ decided′ : List ℕ} (there : CarriedThere P Looked opens decided k j ok opens′ decided′) where
     -- It goes on to one more site.
-    pub carried-more : ok ≡ true → CarriedBelow P ways₀ decided₀ k (j + 1) ways′ decided′
+    pub carried-more : ok ≡ true → CarriedBelow P Looked opens₀ decided₀ k (j + 1) opens′ decided′
     carried-more yes-ok =
         record {
           sizes = there .sizes;
@@ -282,12 +279,12 @@ module _ {P : Problem} {ways₀ decided₀ : List ℕ} {k j : ℕ} {ways decided
           own = record { row = there .own ∙ below .own .row; decision = there .own-decided ∙ below .own .decision };
         }
       where
-        kept : (i : ℕ) → i ≢ j → SameSite ways₀ decided₀ ways decided i → SameSite ways₀ decided₀ ways′ decided′ i
+        kept : (i : ℕ) → i ≢ j → SameSite opens₀ decided₀ opens decided i → SameSite opens₀ decided₀ opens′ decided′ i
         kept i other same =
             record { row = there .elsewhere i other ∙ same .row; decision = there .decided-elsewhere i other ∙ same .decision }
 
         from : (i : ℕ) → i < j + 1 → i ≢ k → Dec (i ≡ j)
-            → CarriedTo P ways₀ decided₀ k i ways′ decided′
+            → CarriedTo P Looked opens₀ decided₀ k i opens′ decided′
         from i reached other (yes p) =
             let same = below .later j (omega arith) in
             rw p
@@ -299,7 +296,7 @@ module _ {P : Problem} {ways₀ decided₀ : List ℕ} {k j : ℕ} {ways decided
             (below .carried i (omega arith) other)
 
     -- A site left with no corner sticks.
-    pub carried-stuck : j < P .n → ok ≡ false → CarriedOut P ways₀ decided₀ k false ways′ decided′
+    pub carried-stuck : j < P .n → ok ≡ false → CarriedOut P Looked opens₀ decided₀ k false opens′ decided′
     carried-stuck listed no-ok =
         let same = below .later j (omega arith) in
         record {
@@ -315,19 +312,21 @@ module _ {P : Problem} {ways₀ decided₀ : List ℕ} {k j : ℕ} {ways decided
         }
 
 -- On its way it may be carried to the next site.
-pub may-carry-to : {n : ℕ} {xs ys : List ℕ} {side : HalfUnits} {P : Problem} {ways₀ decided₀ : List ℕ}
-    {k from j : ℕ} {ways decided : List ℕ}
-    → MayCarryOut n xs ys side ways₀ decided₀ k from → CarriedBelow P ways₀ decided₀ k j ways decided → j < n
-    → MayCarryTo xs ys side ways decided k (cornerAt decided₀ k) j
-may-carry-to {n} {xs} {ys} {k} {j} may below listed =
+pub may-carry-to : {n : ℕ} {xs ys : List ℕ} {side : HalfUnits} {P : Problem} {Looked : ℕ → Type 0} {opens₀ decided₀ : List ℕ}
+    {k e from j : ℕ} {opens decided : List ℕ} {own : Label} {toward : Directions}
+    → MayCarryCorner n xs ys side opens₀ decided₀ k e from → CarriedBelow P Looked opens₀ decided₀ k j opens decided → j < n
+    → own ≡ labelAt (siteIn xs ys k) (cornerAt decided₀ k) → toward ≡ directionsOf e
+    → MayCarryTo xs ys side opens decided k own j e toward
+may-carry-to {j = j} asked below listed own-is toward-is =
+    let may = asked .carrying in
     let same = below .later j (omega arith) in
     record {
       judged = record { judged = may .held .judged };
       from = held-place (may .held) (may .listed);
       to = held-place (may .held) listed;
       sizes = below .sizes;
-      corner = may .corner;
-      is-decided = sym (below .own .decision);
+      corner = asked .corner;
+      own-is = rw (below .own .decision) own-is;
+      toward-is = toward-is;
       settled = record { settled = rw (same .row, same .decision) (may .settled .all-settled j listed .settled) };
-      only-equal = λ different. record { equal = rw (same .row) (may .only-equal j listed different .equal) };
     }

@@ -1,4 +1,4 @@
--- A trial on the bytes of a state (specs/code/Ways): it takes a corner, then carries out one decision after another, with a table of
+-- A trial on the bytes of a state (specs/code/Steps): it takes a corner, then carries out one decision after another, with a table of
 -- marks, until a site is left with no corner or no decision waits. The laws of specs/search/Trial do the work.
 -- Assumes nothing.
 use mathlib.Core.Path.{_≡_, refl, sym, ap, _∙_}
@@ -11,31 +11,32 @@ use native.Mathlib.Omega.{arith}
 use lib.ListN.{length, set, length-set}
 use lib.Seq.{getD-set-other}
 use Rattle.placing.specs.declared.units.HalfUnits.{HalfUnits}
+use Rattle.placing.specs.declared.way.Way.{Way}
 use Rattle.placing.specs.rules.Choice.{cornerAt}
 use Rattle.placing.specs.search.Problem.{Problem}
 use Rattle.placing.specs.search.Rows.{rowOf}
-use Rattle.placing.specs.search.State.{Underway, Closed, Later, Took}
+use Rattle.placing.specs.search.State.{Every, Underway, Closed, Later, Took}
 use Rattle.placing.specs.search.Trial.{trial-begins, trial-later-start, carried-underway, carried-later, stuck-refused, trial-closed}
-use Rattle.placing.specs.code.Ways.{Done, Sizes, AllSettled, TakenCorner, CarriedOut, Waits, FirstWaiting, Kept, Marked, CarriedOn, Tried}
+use Rattle.placing.specs.code.Steps.{Done, Sizes, AllSettled, TakenCorner, CarriedOut, Waits, FirstWaiting, Kept, Marked, CarriedOn, Tried}
 use Rattle.placing.specs.code.Sites.{Held}
-use Rattle.placing.specs.code.Labels.{labels, meet-equal}
+use Rattle.placing.specs.code.Labels.{labels, met-looked}
 use Rattle.placing.specs.code.Asks.{MayCarryOut, MayCarryOn}
 use Rattle.placing.specs.code.Marks.{mark-stays, kept-same, kept-set, none-waits-marked}
 
--- Some decisions have been carried out since the state ways₀, decided₀: the marked ones, those of the sites below `from` among them.
-pub record CarryingOn (P : Problem) (from : ℕ) (ways₀ decided₀ marks₀ ways decided marks : List ℕ) : Type 0 where
-  pub sizes : Sizes ways decided
+-- Some decisions have been carried out since the state opens₀, decided₀: the marked ones, those of the sites below `from` among them.
+pub record CarryingOn (P : Problem) (from : ℕ) (opens₀ decided₀ marks₀ opens decided marks : List ℕ) : Type 0 where
+  pub sizes : Sizes opens decided
   pub room : P .n ≤ length marks
   pub kept : Kept (P .n) marks₀ marks
-  pub underway : Underway P ways decided (Done marks)
+  pub underway : Underway P opens decided (Done marks)
   pub later : (w d : List ℕ) (i c : ℕ) → i < P .n → c ≢ 0
-      → Later P w d i c ways₀ decided₀ → Later P w d i c ways decided
+      → Later P w d i c opens₀ decided₀ → Later P w d i c opens decided
   pub marked-below : (j : ℕ) → j < from → Done marks j
 
 -- Carrying on starts with the state as it is.
-pub carrying-starts : {n : ℕ} {xs ys : List ℕ} {side : HalfUnits} {ways decided marks : List ℕ} {from : ℕ}
-    → MayCarryOn n xs ys side ways decided marks from
-    → CarryingOn (labels (side .0) n xs ys) from ways decided marks ways decided marks
+pub carrying-starts : {n : ℕ} {xs ys : List ℕ} {way : Way} {side : HalfUnits} {opens decided marks : List ℕ} {from : ℕ}
+    → MayCarryOn n xs ys way side opens decided marks from
+    → CarryingOn (labels way (side .0) n xs ys) from opens decided marks opens decided marks
 carrying-starts may =
     record {
       sizes = may .sizes;
@@ -46,10 +47,10 @@ carrying-starts may =
       marked-below = may .marked-below;
     }
 
-module _ {P : Problem} {from : ℕ} {ways₀ decided₀ marks₀ ways decided marks : List ℕ}
-    (so-far : CarryingOn P from ways₀ decided₀ marks₀ ways decided marks) where
+module _ {P : Problem} {from : ℕ} {opens₀ decided₀ marks₀ opens decided marks : List ℕ}
+    (so-far : CarryingOn P from opens₀ decided₀ marks₀ opens decided marks) where
   -- The decided corner of every decided site alone is open.
-  carrying-settled : AllSettled (P .n) ways decided
+  carrying-settled : AllSettled (P .n) opens decided
   carrying-settled =
       record {
         all-settled = λ j inside. record {
@@ -65,7 +66,7 @@ module _ {P : Problem} {from : ℕ} {ways₀ decided₀ marks₀ ways decided ma
   none-below j below waiting = waiting .unmarked (so-far .marked-below j below)
 
   -- Where no decision waits, the trial has carried on.
-  pub carrying-ends : {k : ℕ} → FirstWaiting decided marks (P .n) k → k ≡ P .n → CarriedOn P ways₀ decided₀ true ways decided
+  pub carrying-ends : {k : ℕ} → FirstWaiting decided marks (P .n) k → k ≡ P .n → CarriedOn P opens₀ decided₀ true opens decided
   carrying-ends first none =
       record {
         sizes = so-far .sizes;
@@ -82,7 +83,7 @@ module _ {P : Problem} {from : ℕ} {ways₀ decided₀ marks₀ ways decided ma
 
     -- It conflicts with no open corner of a site below `from`: of that site the decided corner alone is open, and its decision has
     -- been carried out.
-    carrying-apart : (j : ℕ) → j < from → j < P .n → j ≢ k → (e : ℕ) → rowOf ways j e ≡ 1
+    carrying-apart : (j : ℕ) → j < from → j < P .n → j ≢ k → (e : ℕ) → rowOf opens j e ≡ 1
         → P .Conflict k (cornerAt decided k) j e → ⊥
     carrying-apart j below inside different e is-open conflict =
         let state = so-far .underway in
@@ -91,9 +92,9 @@ module _ {P : Problem} {from : ℕ} {ways₀ decided₀ marks₀ ways decided ma
         state .apart j k (cornerAt decided k) inside listed different done (state .decided-open k listed is-decided)
         (rw taken at (P .symmetric k (cornerAt decided k) j e conflict))
 
-    module _ {ok : Bool} {ways′ decided′ : List ℕ} (out : CarriedOut P ways decided k ok ways′ decided′) where
+    module _ {ok : Bool} {opens′ decided′ : List ℕ} (out : CarriedOut P Every opens decided k ok opens′ decided′) where
       -- After the decision of site k is carried out and k is marked, the trial goes on ..
-      pub carrying-on : ok ≡ true → CarryingOn P from ways₀ decided₀ marks₀ ways′ decided′ (set marks k 1)
+      pub carrying-on : ok ≡ true → CarryingOn P from opens₀ decided₀ marks₀ opens′ decided′ (set marks k 1)
       carrying-on went =
           let carried = out .carried went in
           record {
@@ -108,7 +109,7 @@ module _ {P : Problem} {from : ℕ} {ways₀ decided₀ marks₀ ways decided ma
           }
 
       -- .. and where a site is left with no corner, it has failed.
-      pub carrying-stuck : ok ≡ false → CarriedOn P ways₀ decided₀ false ways′ decided′
+      pub carrying-stuck : ok ≡ false → CarriedOn P opens₀ decided₀ false opens′ decided′
       carrying-stuck failed =
           record {
             sizes = out .sizes;
@@ -118,32 +119,34 @@ module _ {P : Problem} {from : ℕ} {ways₀ decided₀ marks₀ ways decided ma
                 stuck-refused (so-far .underway) listed is-decided (out .stuck failed) (so-far .later w d i c inside some later);
           }
 
--- A decision may be carried out: open corners are uncrowded, so their labels meet at equal corners only.
-pub may-carry-out : {n : ℕ} {xs ys : List ℕ} {side : HalfUnits} {ways₀ decided₀ marks₀ ways decided marks : List ℕ} {k from : ℕ}
-    → Held n xs ys side → from ≤ n → CarryingOn (labels (side .0) n xs ys) from ways₀ decided₀ marks₀ ways decided marks → k < n
-    → cornerAt decided k ≢ 0 → MayCarryOut n xs ys side ways decided k from
-may-carry-out {n} {xs} {ys} {side} held inside so-far listed is-decided =
+-- A decision may be carried out: open corners are allowed, so that those whose labels meet it are looked at.
+pub may-carry-out : {n : ℕ} {xs ys : List ℕ} {way : Way} {side : HalfUnits} {opens₀ decided₀ marks₀ opens decided marks : List ℕ} {k from : ℕ}
+    → Held n xs ys side → from ≤ n → CarryingOn (labels way (side .0) n xs ys) from opens₀ decided₀ marks₀ opens decided marks → k < n
+    → cornerAt decided k ≢ 0 → MayCarryOut n xs ys way side opens decided k from
+may-carry-out {n} {xs} {ys} {way} {side} held inside so-far listed is-decided =
     let own = carrying-candidate so-far listed is-decided in
     record {
-      held = held;
-      sizes = so-far .sizes;
-      listed = listed;
-      corner = own .corner;
-      settled = carrying-settled so-far;
-      only-equal = λ j other different. record {
-        equal = λ e is-open. meet-equal (side .0) n xs ys listed other different own (so-far .underway .candidate j e other is-open);
+      carrying = record {
+        held = held;
+        sizes = so-far .sizes;
+        listed = listed;
+        corner = own .corner;
+        settled = carrying-settled so-far;
+        inside = inside;
+        apart-below = λ j below different. record {
+          apart = carrying-apart so-far listed is-decided j below (lt-of-lt-of-le below inside) different;
+        };
       };
-      inside = inside;
-      apart-below = λ j below different. record {
-        apart = carrying-apart so-far listed is-decided j below (lt-of-lt-of-le below inside) different;
+      met-looked = λ j other different. record {
+        looked = λ e is-open. met-looked way (side .0) n xs ys listed other different own (so-far .underway .candidate j e other is-open);
       };
     }
 
-module _ {P : Problem} {ways decided ways′ decided′ marks : List ℕ} {i c : ℕ}
-    (closed : Closed P ways decided) (listed : i < P .n) (undecided : cornerAt decided i ≡ 0)
-    (is-open : rowOf ways i c ≡ 1) (taken : TakenCorner ways decided i c ways′ decided′) (marked : Marked decided (P .n) marks) where
+module _ {P : Problem} {opens decided opens′ decided′ marks : List ℕ} {i c : ℕ}
+    (closed : Closed P opens decided) (listed : i < P .n) (undecided : cornerAt decided i ≡ 0)
+    (is-open : rowOf opens i c ≡ 1) (taken : TakenCorner opens decided i c opens′ decided′) (marked : Marked decided (P .n) marks) where
   -- A trial starts by taking a corner ..
-  took : Took P ways decided i c ways′ decided′
+  took : Took P opens decided i c opens′ decided′
   took =
       record {
         takes = taken .takes;
@@ -154,7 +157,7 @@ module _ {P : Problem} {ways decided ways′ decided′ marks : List ℕ} {i c :
       }
 
   -- .. and is under way, with the sites decided before marked.
-  pub taken-underway : Underway P ways′ decided′ (Done marks)
+  pub taken-underway : Underway P opens′ decided′ (Done marks)
   taken-underway = trial-begins closed listed undecided is-open took (λ j inside done u. marked .unmarked j inside u done)
 
   -- The open corner is a corner ..
@@ -162,30 +165,30 @@ module _ {P : Problem} {ways decided ways′ decided′ marks : List ℕ} {i c :
   some = let corner = P .corner i c (closed .candidate i c listed is-open) in omega arith
 
   -- .. and what the trial has taken lies later from its start.
-  start : Later P ways decided i c ways′ decided′
+  start : Later P opens decided i c opens′ decided′
   start = trial-later-start closed listed undecided is-open took
 
-  module _ {ok : Bool} {ways″ decided″ : List ℕ} (on : CarriedOn P ways′ decided′ ok ways″ decided″) where
+  module _ {ok : Bool} {opens″ decided″ : List ℕ} (on : CarriedOn P opens′ decided′ ok opens″ decided″) where
     -- Once it has carried on, the corner has been tried ..
-    pub trial-passes : ok ≡ true → Tried P ways decided i c true ways″ decided″
+    pub trial-passes : ok ≡ true → Tried P opens decided i c true opens″ decided″
     trial-passes passed =
         record {
           sizes = on .sizes;
           closed = λ e. on .closed passed;
-          later = λ e. on .later passed ways decided i c listed some start;
+          later = λ e. on .later passed opens decided i c listed some start;
           refused = λ e. absurd (true≢false e);
-          ways-back = λ e. absurd (true≢false e);
+          opens-back = λ e. absurd (true≢false e);
           decided-back = λ e. absurd (true≢false e);
         }
 
     -- .. and where that failed, the state it started from is put back.
-    pub trial-fails : ok ≡ false → Sizes ways decided → Tried P ways decided i c false ways decided
+    pub trial-fails : ok ≡ false → Sizes opens decided → Tried P opens decided i c false opens decided
     trial-fails failed sizes =
         record {
           sizes = sizes;
           closed = λ e. absurd (true≢false (sym e));
           later = λ e. absurd (true≢false (sym e));
-          refused = λ e. on .refused failed ways decided i c listed some start;
-          ways-back = λ e. refl;
+          refused = λ e. on .refused failed opens decided i c listed some start;
+          opens-back = λ e. refl;
           decided-back = λ e. refl;
         }

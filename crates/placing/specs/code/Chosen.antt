@@ -11,6 +11,7 @@ use lib.ListN.{length, take, replicate}
 use Rattle.placing.specs.declared.choice.Choice.{Choice}
 use Rattle.placing.specs.declared.choice.Chosen.{Chosen}
 use Rattle.placing.specs.declared.units.Place.{Place}
+use Rattle.placing.specs.declared.way.Way.{Way}
 use Rattle.placing.specs.rules.Units.{mostSites, Distinct}
 use Rattle.placing.specs.rules.Choice.{First}
 use Rattle.placing.specs.deciding.Answer.{firstGood}
@@ -21,7 +22,7 @@ use Rattle.placing.specs.code.Sites.{sitesOf}
 use Rattle.placing.specs.search.State.{Walked}
 use Rattle.placing.specs.search.Decided.{walk-solution, walk-none-before}
 use Rattle.placing.specs.code.Labels.{labels, good-solution, solution-good}
-use Rattle.placing.specs.code.Ways.{WalkedTo}
+use Rattle.placing.specs.code.Steps.{WalkedTo}
 
 -- A list of corners, where an answer says yes.
 abbrev pub whereYes : Bool → List ℕ → Option (List ℕ)
@@ -33,21 +34,21 @@ abbrev pub choiceIn : ℕ → Chosen → Option (List ℕ)
 choiceIn n r = whereYes (r .ok) (take n (r .corners))
 
 -- At the end of a walk the decisions of the n sites are the first good choice.
-decisions-first : (h n : ℕ) (xs ys ways decided : List ℕ) → n ≤ length decided → Walked (labels h n xs ys) n ways decided
-    → First h (sitesOf n xs ys) (take n decided)
-decisions-first h n xs ys ways decided few walked =
+decisions-first : (way : Way) (h n : ℕ) (xs ys opens decided : List ℕ) → n ≤ length decided → Walked (labels way h n xs ys) n opens decided
+    → First way h (sitesOf n xs ys) (take n decided)
+decisions-first way h n xs ys opens decided few walked =
     record {
-      good = solution-good h n xs ys (take n decided) (walk-solution walked few);
-      none-before = λ es good. walk-none-before walked few es (good-solution h n xs ys es good);
+      good = solution-good way h n xs ys (take n decided) (walk-solution walked few);
+      none-before = λ es good. walk-none-before walked few es (good-solution way h n xs ys es good);
     }
 
 -- A walk over all sites leaves the first good choice, or there is none.
-pub walked-choice : (h n : ℕ) (xs ys : List ℕ) (ok : Bool) (ways decided : List ℕ) → n ≤ mostSites
-    → WalkedTo (labels h n xs ys) n ok ways decided → whereYes ok (take n decided) ≡ firstGood h (sitesOf n xs ys)
-walked-choice h n xs ys true ways decided few walked =
-    sym (first-found (decisions-first h n xs ys ways decided (omega (arith, walked .sizes .decided-size)) (walked .walked refl)))
-walked-choice h n xs ys false ways decided few walked =
-    sym (none-found (λ cs good. walked .no-solution refl cs (good-solution h n xs ys cs good)))
+pub walked-choice : (way : Way) (h n : ℕ) (xs ys : List ℕ) (ok : Bool) (opens decided : List ℕ) → n ≤ mostSites
+    → WalkedTo (labels way h n xs ys) n ok opens decided → whereYes ok (take n decided) ≡ firstGood way h (sitesOf n xs ys)
+walked-choice way h n xs ys true opens decided few walked =
+    sym (first-found (decisions-first way h n xs ys opens decided (omega (arith, walked .sizes .decided-size)) (walked .walked refl)))
+walked-choice way h n xs ys false opens decided few walked =
+    sym (none-found (λ cs good. walked .no-solution refl cs (good-solution way h n xs ys cs good)))
 
 -- ---- what choosing at a side hands back
 
@@ -57,14 +58,14 @@ take-ones zero k few = refl
 take-ones (suc n) zero few = absurd (omega arith)
 take-ones (suc n) (suc k) few = ap (λ (l : List ℕ). 1 ∷ l) (take-ones n k (le-of-suc-le-suc few))
 
-module _ (h : ℕ) (ps : List Place) where
+module _ (way : Way) (h : ℕ) (ps : List Place) where
   -- Where no good choice exists.
-  pub no-choice : NoneGood h ps → record { exists = false; corners = replicate mostSites 0 } ≡ choiceAs (firstGood h ps)
+  pub no-choice : NoneGood way h ps → record { exists = false; corners = replicate mostSites 0 } ≡ choiceAs (firstGood way h ps)
   no-choice none-good = sym (ap choiceAs (none-found none-good))
 
   -- Where it is these corners.
-  choice-is : {n : ℕ} {cs first : List ℕ} → length ps ≡ n → firstGood h ps ≡ some cs → first ≡ cs ++ replicate (mostSites - n) 0
-      → record { exists = true; corners = first } ≡ choiceAs (firstGood h ps)
+  choice-is : {n : ℕ} {cs first : List ℕ} → length ps ≡ n → firstGood way h ps ≡ some cs → first ≡ cs ++ replicate (mostSites - n) 0
+      → record { exists = true; corners = first } ≡ choiceAs (firstGood way h ps)
   choice-is {n} {cs} count made held =
       let size : length cs ≡ n = firstGood-some made .good .corners .one-each ∙ count in
       ap {B = Choice} (λ (l : List ℕ). record { exists = true; corners = l })
@@ -72,14 +73,14 @@ module _ (h : ℕ) (ps : List Place) where
       ∙ sym (ap choiceAs made)
 
   -- Where the walk has led to one.
-  pub choice-found : {n : ℕ} (chosen : Chosen) {first : List ℕ} → length ps ≡ n → choiceIn n chosen ≡ firstGood h ps → chosen .ok ≡ true
-      → first ≡ take n (chosen .corners) ++ replicate (mostSites - n) 0 → record { exists = true; corners = first } ≡ choiceAs (firstGood h ps)
+  pub choice-found : {n : ℕ} (chosen : Chosen) {first : List ℕ} → length ps ≡ n → choiceIn n chosen ≡ firstGood way h ps → chosen .ok ≡ true
+      → first ≡ take n (chosen .corners) ++ replicate (mostSites - n) 0 → record { exists = true; corners = first } ≡ choiceAs (firstGood way h ps)
   choice-found {n} chosen count is ok = choice-is count (sym is ∙ ap (λ (b : Bool). whereYes b (take n (chosen .corners))) ok)
 
   -- Up to side 1, where it is corner 1 everywhere.
   pub ones-found : {n : ℕ} {first : List ℕ} → h ≤ 1 → Distinct ps → length ps ≡ n → n ≤ mostSites
       → first ≡ take n (replicate mostSites 1) ++ replicate (mostSites - n) 0
-      → record { exists = true; corners = first } ≡ choiceAs (firstGood h ps)
+      → record { exists = true; corners = first } ≡ choiceAs (firstGood way h ps)
   ones-found {n} small distinct count few held =
       choice-is count (first-found (first-at-one small distinct) ∙ ap (λ (k : ℕ). some (replicate k 1)) count)
       (held ∙ ap (λ (l : List ℕ). l ++ replicate (mostSites - n) 0) (take-ones n mostSites few))

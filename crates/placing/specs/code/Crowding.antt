@@ -2,7 +2,7 @@
 -- Assumes nothing.
 use mathlib.Core.Path.{_≡_}
 use mathlib.Core.List.{List}
-use Prim.Native.Nat.{ℕ, _+_, _-_, _*_, _/_, _≤_, _<_, max}
+use Prim.Native.Nat.{ℕ, _+_, _-_, _*_, _/_, _%_, _≤_, _<_, max}
 use native.Mathlib.Nat.{le-trans}
 use native.Mathlib.Decide.{decLe}
 use native.Mathlib.Omega.{arith}
@@ -11,9 +11,14 @@ use lib.ListN.{length, getD, replicate}
 use Rattle.placing.specs.declared.crowding.Crowding.{Crowding}
 use Rattle.placing.specs.declared.units.HalfUnits.{HalfUnits}
 use Rattle.placing.specs.declared.units.Place.{Place}
+use Rattle.placing.specs.declared.way.Way.{Way}
+use Rattle.placing.specs.declared.way.Way.the-variants.{Usual, Above}
 use Rattle.placing.specs.rules.Units.{mostSites, freeSide}
 use Rattle.placing.specs.rules.Corner.{Corner}
-use Rattle.placing.specs.rules.Choice.{cornerAt, Good}
+use Rattle.placing.specs.rules.Choice.{cornerAt, Allowed, uncrowded, at-most-two, Good}
+use Rattle.placing.specs.deciding.Tests.{not-crowded, one-or-two}
+use Rattle.placing.specs.search.Rows.{indexOf}
+use Rattle.placing.specs.code.Filled.{Filled, filled-front}
 use Rattle.placing.specs.code.Reach.{ReachIs}
 use Rattle.placing.specs.code.Pairs.{reachAt, RowsBelow, ReachesOver, over-lower, over-none, over-rows}
 
@@ -22,18 +27,31 @@ abbrev pub judgedFree : HalfUnits
 judgedFree = record { 0 = freeSide }
 
 -- No side from this one up to `most` has a good choice.
-pub record NoneFrom (most : ℕ) (ps : List Place) (side : ℕ) : Type 0 where
-  pub none-good : (h : ℕ) → h ≤ most → side ≤ h → (es : List ℕ) → Good h ps es → ⊥
+pub record NoneFrom (way : Way) (most : ℕ) (ps : List Place) (side : ℕ) : Type 0 where
+  pub none-good : (h : ℕ) → h ≤ most → side ≤ h → (es : List ℕ) → Good way h ps es → ⊥
+
+-- For sides up to the top, corner c of site i is allowed exactly where the doubled side is within the reach r.
+pub record AllowedWithin (way : Way) (ps : List Place) (top i c r : ℕ) : Type 0 where
+  pub allows : (h : ℕ) → 1 ≤ h → h ≤ top → 2 * h ≤ r → Allowed way h ps i c
+  pub shuts : (h : ℕ) → h ≤ top → r < 2 * h → Allowed way h ps i c → ⊥
+
+-- By the usual way that is how far it reaches before it is crowded.
+reach-allows : {ps : List Place} {top i c r : ℕ} → ReachIs ps top i c r → AllowedWithin Usual ps top i c r
+reach-allows reach =
+    record {
+      allows = λ h least inside within. uncrowded (λ crowded. let passed = reach .below h inside crowded in omega arith);
+      shuts = λ h inside passed allowed. not-crowded allowed (reach .crowds h inside passed);
+    }
 
 -- The array has the reaches of the first n sites for sides up to the top.
-pub record ReachesAre (ps : List Place) (n : ℕ) (crowding : Crowding) : Type 0 where
-  pub at-corner : (i c : ℕ) → i < n → Corner c → ReachIs ps (crowding .top .0) i c (reachAt (crowding .reaches) i c)
+pub record ReachesAre (way : Way) (ps : List Place) (n : ℕ) (crowding : Crowding) : Type 0 where
+  pub at-corner : (i c : ℕ) → i < n → Corner c → AllowedWithin way ps (crowding .top .0) i c (reachAt (crowding .reaches) i c)
 
 -- It has, and above the top no side up to `most` has a good choice.
-pub record CrowdingIs (most : ℕ) (ps : List Place) (n : ℕ) (crowding : Crowding) : Type 0 where
+pub record CrowdingIs (way : Way) (most : ℕ) (ps : List Place) (n : ℕ) (crowding : Crowding) : Type 0 where
   pub judged : crowding .top .0 ≤ most
-  pub reaches : ReachesAre ps n crowding
-  pub none-above : NoneFrom most ps (crowding .top .0 + 1)
+  pub reaches : ReachesAre way ps n crowding
+  pub none-above : NoneFrom way most ps (crowding .top .0 + 1)
 
 -- None of the first e reaches of site i is further than this.
 pub record FurthestOf (reaches : List ℕ) (i e furthest : ℕ) : Type 0 where
@@ -69,15 +87,15 @@ top-same = record { falls = omega arith; beyond = λ h above inside. absurd (ome
 
 -- Above what a site leaves there is no good choice.
 none-beyond : {ps : List Place} {most top left i : ℕ} {Over : ℕ → ℕ → Type 0} {reaches : List ℕ} → i < length ps
-    → ReachesOver ps top Over reaches → TopLeft reaches i top left → NoneFrom most ps (top + 1) → NoneFrom most ps (left + 1)
+    → ReachesOver ps top Over reaches → TopLeft reaches i top left → NoneFrom Usual most ps (top + 1) → NoneFrom Usual most ps (left + 1)
 none-beyond {ps} {most} {top} {left} {i} listed over leaves none =
     record { none-good = λ h judged above es good. go h judged above es good (decLe h top) }
   where
-    go : (h : ℕ) → h ≤ most → left + 1 ≤ h → (es : List ℕ) → Good h ps es → Dec (h ≤ top) → ⊥
+    go : (h : ℕ) → h ≤ most → left + 1 ≤ h → (es : List ℕ) → Good Usual h ps es → Dec (h ≤ top) → ⊥
     go h judged above es good (yes inside) =
         let c = cornerAt es i in
         let corner = good .corners .corner i listed in
-        good .uncrowded i listed
+        not-crowded (good .allowed i listed)
         (over .at-corner i c listed corner .crowds h inside (leaves .beyond h (omega arith) inside c corner))
     go h judged above es good (no outside) = none .none-good h judged (omega arith) es good
 
@@ -85,7 +103,7 @@ none-beyond {ps} {most} {top} {left} {i} listed over leaves none =
 pub record CrowdingOver (most : ℕ) (ps : List Place) (i : ℕ) (reaches : List ℕ) (top : ℕ) : Type 0 where
   pub judged : top ≤ most
   pub over : ReachesOver ps top (RowsBelow i) reaches
-  pub none-above : NoneFrom most ps (top + 1)
+  pub none-above : NoneFrom Usual most ps (top + 1)
 
 -- Over no rows they are twice `most`, which is the top ..
 pub crowding-none : {most : ℕ} {ps : List Place} (furthest : ℕ) → furthest ≡ 2 * most → length ps ≤ mostSites
@@ -110,10 +128,40 @@ crowding-more listed so-far over leaves =
 
 -- Over all rows they are the list's.
 pub crowding-all : {most : ℕ} {ps : List Place} {n k : ℕ} {reaches : List ℕ} (top : HalfUnits) → length ps ≡ n → n ≤ k
-    → CrowdingOver most ps k reaches (top .0) → CrowdingIs most ps n (record { reaches = reaches; top = top })
+    → CrowdingOver most ps k reaches (top .0) → CrowdingIs Usual most ps n (record { reaches = reaches; top = top })
 crowding-all top count all so-far =
     record {
       judged = so-far .judged;
-      reaches = record { at-corner = λ i c listed. over-rows (omega arith) (so-far .over) i c (omega arith) };
+      reaches = record { at-corner = λ i c listed corner. reach-allows (over-rows (omega arith) (so-far .over) i c (omega arith) corner) };
       none-above = so-far .none-above;
     }
+
+-- ---- above
+
+-- The reach of the corner at a place of the array, above: as far as can be for corners 1 and 2, nothing for 3 and 4.
+pub record UpperReach (furthest at reach : ℕ) : Type 0 where
+  pub upper : at % 4 < 2 → reach ≡ furthest
+  pub lower : 2 ≤ at % 4 → reach ≡ 0
+
+-- The first k reaches are written, over a list of zeros.
+abbrev pub UpperBelow : (furthest k : ℕ) → List ℕ → Type 0
+UpperBelow furthest k reaches = Filled 0 (UpperReach furthest) 0 k (replicate (4 * mostSites) 0) reaches
+
+-- With all of them written, corners 1 and 2 are allowed at every side up to `most`, which is the top.
+pub crowding-above : {n furthest k : ℕ} {reaches : List ℕ} (most : HalfUnits) → furthest ≡ 2 * most .0 → 4 * n ≤ k
+    → UpperBelow furthest k reaches → (ps : List Place) → CrowdingIs Above (most .0) ps n (record { reaches = reaches; top = most })
+crowding-above {n} {furthest} {k} {reaches} most double all filled ps =
+    record {
+      judged = omega arith;
+      reaches = record { at-corner = λ i c listed corner. within i c corner (filled-front filled (indexOf i c) (omega arith)) (decLe c 2) };
+      none-above = record { none-good = λ h judged above. absurd (omega arith) };
+    }
+  where
+    within : (i c : ℕ) → Corner c → UpperReach furthest (indexOf i c) (reachAt reaches i c) → Dec (c ≤ 2)
+        → AllowedWithin Above ps (most .0) i c (reachAt reaches i c)
+    within i c corner reach (yes low) =
+        let far : reachAt reaches i c ≡ furthest = reach .upper (omega arith) in
+        record { allows = λ h least inside reached. at-most-two low; shuts = λ h inside passed. absurd (omega arith) }
+    within i c corner reach (no high) =
+        let none : reachAt reaches i c ≡ 0 = reach .lower (omega arith) in
+        record { allows = λ h least inside reached. absurd (omega arith); shuts = λ h inside passed allowed. high (one-or-two allowed) }

@@ -10,7 +10,7 @@ use native.Mathlib.Omega.{arith}
 use lib.ListN.{length, getD, set, length-set}
 use lib.Seq.{getD-set-same, getD-set-other}
 use Rattle.placing.specs.rules.Corner.{Corner}
-use Rattle.placing.specs.search.Rows.{wayOf}
+use Rattle.placing.specs.search.Rows.{indexOf}
 
 -- The n elements of a list from a place on are as they should be, and all others as at the start.
 pub record Filled {A : Type 0} (past : A) (Is : ℕ → A → Type 0) (from n : ℕ) (start list : List A) : Type 0 where
@@ -50,9 +50,9 @@ module _ {A : Type 0} {past : A} {Is : ℕ → A → Type 0} {n : ℕ} {start li
 
 -- Where the four elements of site i are filled, those of the other sites are as at the start.
 pub filled-elsewhere : {A : Type 0} {past : A} {Is : ℕ → A → Type 0} {i : ℕ} {start list : List A} → Filled past Is (4 * i) 4 start list
-    → (j c : ℕ) → j ≢ i → Corner c → getD list (wayOf j c) past ≡ getD start (wayOf j c) past
+    → (j c : ℕ) → j ≢ i → Corner c → getD list (indexOf j c) past ≡ getD start (indexOf j c) past
 filled-elsewhere {past = past} {i = i} {start = start} {list = list} filled j c different corner = by-side (decLt j i)
   where
-    by-side : Dec (j < i) → getD list (wayOf j c) past ≡ getD start (wayOf j c) past
-    by-side (yes before) = filled .earlier (wayOf j c) (omega arith)
-    by-side (no after) = filled .later (wayOf j c) (omega arith)
+    by-side : Dec (j < i) → getD list (indexOf j c) past ≡ getD start (indexOf j c) past
+    by-side (yes before) = filled .earlier (indexOf j c) (omega arith)
+    by-side (no after) = filled .later (indexOf j c) (omega arith)

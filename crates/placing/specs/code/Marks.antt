@@ -16,7 +16,7 @@ use lib.ListN.{length, getD, set, drop, length-set}
 use lib.Seq.{getD-set-same, getD-set-other, drop-set-lt, drop-drop}
 use Rattle.placing.specs.rules.Choice.{cornerAt}
 use Rattle.placing.specs.code.Filled.{Filled, filled-front}
-use Rattle.placing.specs.code.Ways.{Done, FirstWaiting, Kept, markOf, Marked}
+use Rattle.placing.specs.code.Steps.{Done, FirstWaiting, Kept, markOf, Marked}
 
 -- The marks of the sites below j are written over a table.
 abbrev pub MarkedBelow : (decided table : List ℕ) (j : ℕ) (marks : List ℕ) → Type 0

@@ -12,14 +12,14 @@ use Rattle.placing.specs.declared.units.HalfUnits.{HalfUnits}
 use Rattle.placing.specs.declared.units.Place.{Place}
 use Rattle.placing.specs.rules.Units.{mostSites, siteAt, OnPlan}
 use Rattle.placing.specs.rules.Corner.{Corner}
-use Rattle.placing.specs.search.Rows.{wayOf}
+use Rattle.placing.specs.search.Rows.{indexOf}
 use Rattle.placing.specs.code.Filled.{Filled, filled-elsewhere}
 use Rattle.placing.specs.code.Sites.{Judged, siteIn, sitesOf, length-sites, site-at}
 use Rattle.placing.specs.code.Reach.{distanceBetween, distance-symmetric, Lowered, ReachIs, ReachOver, over-fewer, over-lowered, over-far, over-all}
 
 -- The reach of corner c of site i, in half units, off the array of all.
 abbrev pub reachAt : List ℕ → ℕ → ℕ → ℕ
-reachAt reaches i c = getD reaches (wayOf i c) 0
+reachAt reaches i c = getD reaches (indexOf i c) 0
 
 -- ---- one pair
 
@@ -92,7 +92,7 @@ over-none {ps} {top} most double few =
       size = length-replicate (4 * mostSites) most;
       at-corner = λ a c listed corner. record {
         crowds = λ h inside above.
-            let is = getD-replicate (4 * mostSites) (wayOf a c) most 0 (omega arith) in
+            let is = getD-replicate (4 * mostSites) (indexOf a c) most 0 (omega arith) in
             absurd (omega arith);
         below = λ h b inside there different passed. absurd (omega arith);
       };

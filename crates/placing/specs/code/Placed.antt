@@ -9,6 +9,7 @@ use lib.ListN.{length, take}
 use Rattle.placing.specs.declared.crowding.Crowding.{Crowding}
 use Rattle.placing.specs.declared.units.HalfUnits.{HalfUnits}
 use Rattle.placing.specs.declared.units.Place.{Place}
+use Rattle.placing.specs.declared.way.Way.{Way}
 use Rattle.placing.specs.rules.Units.{freeSide, Distinct, siteAt, OnPlan}
 use Rattle.placing.specs.calls.Placing.{MayPlace}
 use Rattle.placing.specs.code.Asks.{MayChooseAt}
@@ -22,11 +23,11 @@ pub record MayFind (n : ℕ) (xs ys : List ℕ) (marks : List ℕ) : Type 0 wher
   pub room : n ≤ length marks
 
 -- Bisecting, with the reaches and the top known.
-pub record MayBisect (n : ℕ) (xs ys : List ℕ) (crowding : Crowding) (marks : List ℕ) : Type 0 where
+pub record MayBisect (n : ℕ) (xs ys : List ℕ) (way : Way) (crowding : Crowding) (marks : List ℕ) : Type 0 where
   pub held : Held n xs ys judgedFree
   pub distinct : Distinct (sitesOf n xs ys)
   pub room : n ≤ length marks
-  pub crowding-is : CrowdingIs freeSide (sitesOf n xs ys) n crowding
+  pub crowding-is : CrowdingIs way freeSide (sitesOf n xs ys) n crowding
 
 -- Finding asks all that choosing does.
 pub may-choose : {n : ℕ} {xs ys marks : List ℕ} → MayFind n xs ys marks → (side : HalfUnits) → side .0 ≤ freeSide → MayChooseAt n xs ys side marks

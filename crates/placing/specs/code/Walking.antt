@@ -12,46 +12,46 @@ use Rattle.placing.specs.search.Problem.{Problem}
 use Rattle.placing.specs.search.Rows.{row-zero, row-next}
 use Rattle.placing.specs.search.State.{Refused, Walked}
 use Rattle.placing.specs.search.Walk.{refused-closed, walk-takes, walk-stuck}
-use Rattle.placing.specs.code.Ways.{Tried, WalkedTo, Sizes}
+use Rattle.placing.specs.code.Steps.{Tried, WalkedTo, Sizes}
 
 -- The corners of site i up to e are refused.
-abbrev pub RefusedUpTo : (P : Problem) (ways : List ℕ) (i e : ℕ) → Type 0
-RefusedUpTo P ways i e = (c : ℕ) → c ≤ e → Refused P ways i c
+abbrev pub RefusedUpTo : (P : Problem) (opens : List ℕ) (i e : ℕ) → Type 0
+RefusedUpTo P opens i e = (c : ℕ) → c ≤ e → Refused P opens i c
 
 -- There is no corner 0.
-pub refused-none : {P : Problem} {i : ℕ} (ways : List ℕ) → i < P .n → RefusedUpTo P ways i 0
-refused-none {P} {i} ways listed c none =
-    refused-closed listed (λ o. let zeroth : c ≡ 0 = omega arith in omega (arith, row-zero ways i, rw zeroth at o))
+pub refused-none : {P : Problem} {i : ℕ} (opens : List ℕ) → i < P .n → RefusedUpTo P opens i 0
+refused-none {P} {i} opens listed c none =
+    refused-closed listed (λ o. let zeroth : c ≡ 0 = omega arith in omega (arith, row-zero opens i, rw zeroth at o))
 
 -- A corner whose byte is not 1 fails without a trial.
-pub tried-shut : {P : Problem} {ways decided : List ℕ} {i : ℕ} (e : ℕ) → Sizes ways decided → i < P .n → e < 4
-    → getD ways (4 * i + e) 0 ≢ 1 → Tried P ways decided i (e + 1) false ways decided
-tried-shut {P} {ways} {decided} {i} e sizes listed corner shut =
+pub tried-shut : {P : Problem} {opens decided : List ℕ} {i : ℕ} (e : ℕ) → Sizes opens decided → i < P .n → e < 4
+    → getD opens (4 * i + e) 0 ≢ 1 → Tried P opens decided i (e + 1) false opens decided
+tried-shut {P} {opens} {decided} {i} e sizes listed corner shut =
     record {
       sizes = sizes;
       closed = λ o. absurd (true≢false (sym o));
       later = λ o. absurd (true≢false (sym o));
-      refused = λ o. refused-closed listed (λ is-open. shut (sym (row-next ways i e corner) ∙ is-open));
-      ways-back = λ o. refl;
+      refused = λ o. refused-closed listed (λ is-open. shut (sym (row-next opens i e corner) ∙ is-open));
+      opens-back = λ o. refl;
       decided-back = λ o. refl;
     }
 
 -- A walk that has come to site i.
-pub walked-to : {P : Problem} {i : ℕ} {ways decided : List ℕ} → Sizes ways decided → Walked P i ways decided
-    → WalkedTo P i true ways decided
+pub walked-to : {P : Problem} {i : ℕ} {opens decided : List ℕ} → Sizes opens decided → Walked P i opens decided
+    → WalkedTo P i true opens decided
 walked-to sizes walked = record { sizes = sizes; walked = λ o. walked; no-solution = λ o. absurd (true≢false o) }
 
 -- The first corner whose trial does not fail is taken.
-pub takes-corner : {P : Problem} {ways decided ways′ decided′ : List ℕ} {i : ℕ} (e : ℕ) {ok : Bool} → Walked P i ways decided
-    → i < P .n → cornerAt decided i ≡ 0 → RefusedUpTo P ways i e → Tried P ways decided i (e + 1) ok ways′ decided′ → ok ≡ true
-    → WalkedTo P (i + 1) true ways′ decided′
+pub takes-corner : {P : Problem} {opens decided opens′ decided′ : List ℕ} {i : ℕ} (e : ℕ) {ok : Bool} → Walked P i opens decided
+    → i < P .n → cornerAt decided i ≡ 0 → RefusedUpTo P opens i e → Tried P opens decided i (e + 1) ok opens′ decided′ → ok ≡ true
+    → WalkedTo P (i + 1) true opens′ decided′
 takes-corner e walked listed undecided before tried yes-ok =
     walked-to (tried .sizes)
     (walk-takes walked listed undecided (λ c lower. before c (omega arith)) (tried .closed yes-ok) (tried .later yes-ok) (omega arith))
 
 -- Where every corner is refused there is no solution.
-pub takes-none : {P : Problem} {ways decided : List ℕ} {i e : ℕ} → Sizes ways decided → Walked P i ways decided → i < P .n
-    → 4 ≤ e → RefusedUpTo P ways i e → WalkedTo P (i + 1) false ways decided
+pub takes-none : {P : Problem} {opens decided : List ℕ} {i e : ℕ} → Sizes opens decided → Walked P i opens decided → i < P .n
+    → 4 ≤ e → RefusedUpTo P opens i e → WalkedTo P (i + 1) false opens decided
 takes-none sizes walked listed all before =
     record {
       sizes = sizes;
@@ -60,8 +60,8 @@ takes-none sizes walked listed all before =
     }
 
 -- A walk that found no solution found none for any site.
-pub walk-over : {P : Problem} {i : ℕ} {ok : Bool} {ways decided : List ℕ} (n : ℕ) → ok ≡ false → WalkedTo P i ok ways decided
-    → WalkedTo P n false ways decided
+pub walk-over : {P : Problem} {i : ℕ} {ok : Bool} {opens decided : List ℕ} (n : ℕ) → ok ≡ false → WalkedTo P i ok opens decided
+    → WalkedTo P n false opens decided
 walk-over n failed walked =
     record {
       sizes = walked .sizes;

@@ -10,6 +10,7 @@ use native.Mathlib.Omega.{arith}
 use native.Mathlib.Decide.{ℕ-discrete}
 use lib.ListN.{length}
 use Rattle.placing.specs.declared.units.Place.{Place}
+use Rattle.placing.specs.declared.way.Way.{Way}
 use Rattle.placing.specs.rules.Corner.{Corner}
 use Rattle.placing.specs.rules.Choice.{cornerAt, Corners, Good, First, Before, lower, later}
 
@@ -48,8 +49,8 @@ finds-nothing (found {cs} has none-before) none-has = absurd (none-has cs has)
 finds-nothing (missing none-found) none-has = refl
 
 -- What a search for good choices finds is the first good choice.
-pub found-first : {h : ℕ} {ps : List Place} {cs : List ℕ} {o : Option (List ℕ)} → FirstWith (Good h ps) o → o ≡ some cs → First h ps cs
-found-first {h} {ps} (found good none-before) is-found = subst (First h ps) (cc) (record { good = good; none-before = none-before })
+pub found-first : {way : Way} {h : ℕ} {ps : List Place} {cs : List ℕ} {o : Option (List ℕ)} → FirstWith (Good way h ps) o → o ≡ some cs → First way h ps cs
+found-first {way} {h} {ps} (found good none-before) is-found = subst (First way h ps) (cc) (record { good = good; none-before = none-before })
 found-first (missing none-has) is-found = absurd (Option·none-ne-some _ is-found)
 
 -- The list's first corner is one of the k from c on, and the others have the property Q of that corner.

@@ -11,13 +11,15 @@ use lib.Dec.{leb, ltb, eqb}
 use lib.ListN.{length}
 use borrow.Author.Tests.{leb-true, leb-false, eqb-true, eqb-false}
 use Rattle.placing.specs.declared.units.Place.{Place}
+use Rattle.placing.specs.declared.way.Way.{Way}
+use Rattle.placing.specs.declared.way.Way.the-variants.{Usual, Above}
 use Rattle.placing.specs.declared.corner.Direction.{Direction}
 use Rattle.placing.specs.declared.corner.Direction.the-variants.{Up, Down}
 use Rattle.placing.specs.rules.Units.{Axis, X, Y, along, inHalfUnits, dist, siteAt, Distinct}
 use Rattle.placing.specs.rules.Corner.{Corner, toward, opposite}
 use Rattle.placing.specs.rules.Label.{Onward, upward, downward, Overlap, same-way, facing, Meet}
 use Rattle.placing.specs.rules.Crowd.{Ahead, DoubledCovers, Crowded}
-use Rattle.placing.specs.rules.Choice.{cornerAt, Corners, Good, MeetingPair}
+use Rattle.placing.specs.rules.Choice.{cornerAt, Corners, Allowed, uncrowded, at-most-two, Good, MeetingPair}
 use Rattle.placing.specs.deciding.Decides.{Decides, decides-same, decides-second, decides-no, decides-yes}
 
 -- The tests of numbers decide.
@@ -138,11 +140,11 @@ opposite-differs Up same = let z : _≡_ {A = ℕ} 0 1 = cc in omega arith
 opposite-differs Down same = let z : _≡_ {A = ℕ} 0 1 = cc in omega arith
 
 -- Two directions are the same, or opposite.
-abbrev pub ways : (d e : Direction) → (d ≡ e) ⊎ (opposite d ≡ e)
-ways Up Up = inl refl
-ways Up Down = inr refl
-ways Down Up = inr refl
-ways Down Down = inl refl
+abbrev pub same-or-opposite : (d e : Direction) → (d ≡ e) ⊎ (opposite d ≡ e)
+same-or-opposite Up Up = inl refl
+same-or-opposite Up Down = inr refl
+same-or-opposite Down Up = inr refl
+same-or-opposite Down Down = inl refl
 
 abbrev pub onwardTest : Direction → ℕ → ℕ → Bool
 onwardTest Up a b = leb a b
@@ -178,16 +180,16 @@ facing-decides {p = p} {q = q} {d = d} {e = e} {a = a} {b = b} against = decides
 
 abbrev pub overlapTest : (p q : ℕ) → Direction → ℕ → Direction → ℕ → Bool
 overlapTest p q d a e b =
-    elim (ways d e) [ inl same ↦ ltb (inHalfUnits (dist a b) * q) p | inr against ↦ onwardTest d a b && ltb (dist a b * q) p ]
+    elim (same-or-opposite d e) [ inl same ↦ ltb (inHalfUnits (dist a b) * q) p | inr against ↦ onwardTest d a b && ltb (dist a b * q) p ]
 
 pub overlap-decides : (p q : ℕ) (d : Direction) (a : ℕ) (e : Direction) (b : ℕ) → Decides (overlapTest p q d a e b) (Overlap p q d a e b)
-overlap-decides p q d a e b = by-ways (ways d e)
+overlap-decides p q d a e b = by-direction (same-or-opposite d e)
   where
-    by-ways : (w : (d ≡ e) ⊎ (opposite d ≡ e))
+    by-direction : (w : (d ≡ e) ⊎ (opposite d ≡ e))
         → Decides (elim w [ inl same ↦ ltb (inHalfUnits (dist a b) * q) p | inr against ↦ onwardTest d a b && ltb (dist a b * q) p ])
         (Overlap p q d a e b)
-    by-ways (inl same) = same-way-decides same (lt-decides _ _)
-    by-ways (inr against) = facing-decides against (both-decide (onward-decides d a b) (lt-decides _ _))
+    by-direction (inl same) = same-way-decides same (lt-decides _ _)
+    by-direction (inr against) = facing-decides against (both-decide (onward-decides d a b) (lt-decides _ _))
 
 abbrev pub meetTest : (p q : ℕ) → Place → ℕ → Place → ℕ → Bool
 meetTest p q s c t e = bothAxes (λ axis. overlapTest p q (toward axis c) (along axis s) (toward axis e) (along axis t))
@@ -251,13 +253,29 @@ corners-decide n cs =
     decides-same (λ r. record { one-each = r .0; corner = r .1 }) (λ r. (r .one-each, r .corner))
     (both-decide (eq-decides (length cs) n) (all-decides _ n (λ i. corner-decides (cornerAt cs i))))
 
-abbrev pub goodTest : ℕ → List Place → List ℕ → Bool
-goodTest h ps cs =
-    cornersTest (length ps) cs && (allBelow (length ps) (λ i. not (crowdedTest h ps i (cornerAt cs i))) && not (meetingTest h 1 ps cs))
+-- What the usual way allows is not crowded,
+pub not-crowded : {h : ℕ} {ps : List Place} {i c : ℕ} → Allowed Usual h ps i c → Crowded h ps i c → ⊥
+not-crowded (uncrowded none) = none
 
-pub good-decides : (h : ℕ) (ps : List Place) (cs : List ℕ) → Decides (goodTest h ps cs) (Good h ps cs)
-good-decides h ps cs =
-    decides-same (λ r. record { corners = r .0; uncrowded = r .1 .0; apart = r .1 .1 }) (λ g. (g .corners, (g .uncrowded, g .apart)))
+-- and what is allowed above is corner 1 or 2.
+pub one-or-two : {h : ℕ} {ps : List Place} {i c : ℕ} → Allowed Above h ps i c → c ≤ 2
+one-or-two (at-most-two low) = low
+
+abbrev pub allowedTest : Way → ℕ → List Place → (i c : ℕ) → Bool
+allowedTest Usual h ps i c = not (crowdedTest h ps i c)
+allowedTest Above h ps i c = leb c 2
+
+pub allowed-decides : (way : Way) (h : ℕ) (ps : List Place) (i c : ℕ) → Decides (allowedTest way h ps i c) (Allowed way h ps i c)
+allowed-decides Usual h ps i c = decides-same uncrowded not-crowded (not-decides (crowded-decides h ps i c))
+allowed-decides Above h ps i c = decides-same at-most-two one-or-two (le-decides c 2)
+
+abbrev pub goodTest : Way → ℕ → List Place → List ℕ → Bool
+goodTest way h ps cs =
+    cornersTest (length ps) cs && (allBelow (length ps) (λ i. allowedTest way h ps i (cornerAt cs i)) && not (meetingTest h 1 ps cs))
+
+pub good-decides : (way : Way) (h : ℕ) (ps : List Place) (cs : List ℕ) → Decides (goodTest way h ps cs) (Good way h ps cs)
+good-decides way h ps cs =
+    decides-same (λ r. record { corners = r .0; allowed = r .1 .0; apart = r .1 .1 }) (λ g. (g .corners, (g .allowed, g .apart)))
     (both-decide (corners-decide (length ps) cs)
-    (both-decide (all-decides _ (length ps) (λ i. not-decides (crowded-decides h ps i (cornerAt cs i))))
+    (both-decide (all-decides _ (length ps) (λ i. allowed-decides way h ps i (cornerAt cs i)))
     (not-decides (meeting-decides h 1 ps cs))))

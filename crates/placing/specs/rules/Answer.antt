@@ -9,6 +9,7 @@ use lib.Dec.{leb}
 use Rattle.placing.specs.declared.units.Place.{Place}
 use Rattle.placing.specs.declared.units.Side.{Side}
 use Rattle.placing.specs.declared.units.Side.the-variants.{Number, Free}
+use Rattle.placing.specs.declared.way.Way.{Way}
 use Rattle.placing.specs.rules.Units.{greatestSide, freeSide}
 use Rattle.placing.specs.rules.Choice.{Good, First}
 
@@ -40,12 +41,12 @@ free cs = record { side = Free; corners = cs }
 
 -- "If a good choice exists at 20,001, .. the answer is free, with the first good choice at 20,001. Otherwise it is the greatest h that
 -- has a good choice, with the first good choice there." The first premise of a number is the document's "Otherwise".
-pub data IsAnswer (ps : List Place) : Answer → Type 0 where
-  is-free : {cs : List ℕ} → First freeSide ps cs → IsAnswer ps (free cs)
-  is-number : {h : ℕ} {cs : List ℕ} → ((es : List ℕ) → Good freeSide ps es → ⊥) → 1 ≤ h → h ≤ greatestSide → First h ps cs
-      → ((k : ℕ) → h < k → (es : List ℕ) → Good k ps es → ⊥) → IsAnswer ps (numbered h cs)
+pub data IsAnswer (way : Way) (ps : List Place) : Answer → Type 0 where
+  is-free : {cs : List ℕ} → First way freeSide ps cs → IsAnswer way ps (free cs)
+  is-number : {h : ℕ} {cs : List ℕ} → ((es : List ℕ) → Good way freeSide ps es → ⊥) → 1 ≤ h → h ≤ greatestSide → First way h ps cs
+      → ((k : ℕ) → h < k → (es : List ℕ) → Good way k ps es → ⊥) → IsAnswer way ps (numbered h cs)
 
 -- L1, "choosing the first good choice at a given side": that side with these corners.
-pub record IsChosen (ps : List Place) (answer : Answer) : Type 0 where
+pub record IsChosen (way : Way) (ps : List Place) (answer : Answer) : Type 0 where
   pub given : isSide (answer .side) ≡ true
-  pub first : First (judgedAt (answer .side)) ps (answer .corners)
+  pub first : First way (judgedAt (answer .side)) ps (answer .corners)

@@ -1,12 +1,14 @@
--- Document 01, "Good choice at h", "First" and, of "What demand 3 counts", two labels that meet. A choice is a list of corners, one for
--- each site.
+-- Document 01, "Good choice at h", "First" and, of "What demand 3 counts", two labels that meet; and the second way of placing, document
+-- 02, L2. A choice is a list of corners, one for each site.
 -- Assumes nothing.
 use mathlib.Core.Path.{_≡_}
 use mathlib.Core.List.{List, _∷_}
 use mathlib.Core.Logic.{_≢_}
-use Prim.Native.Nat.{ℕ, _<_}
+use Prim.Native.Nat.{ℕ, _≤_, _<_}
 use lib.ListN.{length, getD}
 use Rattle.placing.specs.declared.units.Place.{Place}
+use Rattle.placing.specs.declared.way.Way.{Way}
+use Rattle.placing.specs.declared.way.Way.the-variants.{Usual, Above}
 use Rattle.placing.specs.rules.Units.{siteAt}
 use Rattle.placing.specs.rules.Corner.{Corner}
 use Rattle.placing.specs.rules.Label.{Meet}
@@ -21,6 +23,11 @@ pub record Corners (n : ℕ) (cs : List ℕ) : Type 0 where
   pub one-each : length cs ≡ n
   pub corner : (i : ℕ) → i < n → Corner (cornerAt cs i)
 
+-- Document 02, L2: "corners 1 and 2 only".
+pub record AboveCorners (n : ℕ) (cs : List ℕ) : Type 0 where
+  pub corners : Corners n cs
+  pub above : (i : ℕ) → i < n → cornerAt cs i ≤ 2
+
 -- "The labels of some two of these lines meet", at the side p/q.
 pub record MeetingPair (p q : ℕ) (ps : List Place) (cs : List ℕ) : Type 0 where
   pub first : ℕ
@@ -30,16 +37,23 @@ pub record MeetingPair (p q : ℕ) (ps : List Place) (cs : List ℕ) : Type 0 wh
   pub different : first ≢ second
   pub meet : Meet p q (siteAt ps first) (cornerAt cs first) (siteAt ps second) (cornerAt cs second)
 
--- "One corner for every site, none crowded at h, no two labels meeting at h."
-pub record Good (h : ℕ) (ps : List Place) (cs : List ℕ) : Type 0 where
+-- Which corners a way of placing allows at h, of site number i: by the usual way those that are not crowded, "none crowded at h"; document
+-- 02, L2, above: "corners 1 and 2 only", and "the crowding rule does not apply to it".
+pub data Allowed : Way → (h : ℕ) → List Place → (i c : ℕ) → Type 0 where
+  uncrowded : {h : ℕ} {ps : List Place} {i c : ℕ} → (Crowded h ps i c → ⊥) → Allowed Usual h ps i c
+  at-most-two : {h : ℕ} {ps : List Place} {i c : ℕ} → c ≤ 2 → Allowed Above h ps i c
+
+-- "Good choice at h. One corner for every site, none crowded at h, no two labels meeting at h": by the usual way. Above, L2: "any choice of
+-- 1 and 2 without meeting labels counts".
+pub record Good (way : Way) (h : ℕ) (ps : List Place) (cs : List ℕ) : Type 0 where
   pub corners : Corners (length ps) cs
-  pub uncrowded : (i : ℕ) → i < length ps → Crowded h ps i (cornerAt cs i) → ⊥
+  pub allowed : (i : ℕ) → i < length ps → Allowed way h ps i (cornerAt cs i)
   pub apart : MeetingPair h 1 ps cs → ⊥
 
 -- "A good choice exists" at h.
-pub record SomeGood (h : ℕ) (ps : List Place) : Type 0 where
+pub record SomeGood (way : Way) (h : ℕ) (ps : List Place) : Type 0 where
   pub choice : List ℕ
-  pub good : Good h ps choice
+  pub good : Good way h ps choice
 
 -- The first list of corners comes before the second: it has the lower corner at the first site where they differ.
 pub data Before : List ℕ → List ℕ → Type 0 where
@@ -47,6 +61,6 @@ pub data Before : List ℕ → List ℕ → Type 0 where
   later : {c : ℕ} {cs es : List ℕ} → Before cs es → Before (c ∷ cs) (c ∷ es)
 
 -- "First means: lowest corner for the first site, then for the second, and so on, among good choices only."
-pub record First (h : ℕ) (ps : List Place) (cs : List ℕ) : Type 0 where
-  pub good : Good h ps cs
-  pub none-before : (es : List ℕ) → Good h ps es → Before es cs → ⊥
+pub record First (way : Way) (h : ℕ) (ps : List Place) (cs : List ℕ) : Type 0 where
+  pub good : Good way h ps cs
+  pub none-before : (es : List ℕ) → Good way h ps es → Before es cs → ⊥

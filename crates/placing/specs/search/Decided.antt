@@ -41,13 +41,13 @@ not-both-greater g b = from (decLt (g .at) (b .at)) (decLt (b .at) (g .at))
         let both : g .at ≡ b .at = omega arith in
         omega (arith, rw both at (g .greater), b .greater)
 
-module _ {P : Problem} {ways decided : List ℕ} (walked : Walked P (P .n) ways decided) (room : P .n ≤ length decided) where
+module _ {P : Problem} {opens decided : List ℕ} (walked : Walked P (P .n) opens decided) (room : P .n ≤ length decided) where
   -- The corner of a site among the decisions of the n sites.
   decision : (i : ℕ) → i < P .n → cornerAt (take (P .n) decided) i ≡ cornerAt decided i
   decision i listed = getD-take (P .n) decided i 0 listed
 
   -- It is open.
-  is-open : (i : ℕ) → i < P .n → rowOf ways i (cornerAt decided i) ≡ 1
+  is-open : (i : ℕ) → i < P .n → rowOf opens i (cornerAt decided i) ≡ 1
   is-open i listed = walked .closed .decided-open i listed (walked .all-decided i listed listed)
 
   -- The decisions of the n sites are a solution ..
@@ -69,7 +69,7 @@ module _ {P : Problem} {ways decided : List ℕ} (walked : Walked P (P .n) ways 
       (λ g. not-both-greater g above)
       (walked .first es solution)
     where
-      same : Follows P ways es → (m : ℕ) → m < P .n → cornerAt es m ≡ cornerAt decided m
+      same : Follows P opens es → (m : ℕ) → m < P .n → cornerAt es m ≡ cornerAt decided m
       same follows m listed = follows-decided (walked .closed) follows m listed (walked .all-decided m listed listed)
 
       above : Greater es (P .n) decided

@@ -12,6 +12,7 @@ use Rattle.placing.specs.rules.Choice.{cornerAt}
 use Rattle.placing.specs.search.Problem.{Problem, Solution}
 use Rattle.placing.specs.search.Rows.{rowOf}
 use Rattle.placing.specs.search.State.{
+  Every,
   TwoOpen,
   ClosedBy,
   Underway,
@@ -42,15 +43,15 @@ closed-by-stays stays c =
       conflict = rw same (c .conflict);
     }
 
-module _ {P : Problem} {ways ways′ decided decided′ : List ℕ} {i c : ℕ}
-    (closed : Closed P ways decided) (listed : i < P .n) (undecided : cornerAt decided i ≡ 0) (is-open : rowOf ways i c ≡ 1)
-    (took : Took P ways decided i c ways′ decided′) where
+module _ {P : Problem} {opens opens′ decided decided′ : List ℕ} {i c : ℕ}
+    (closed : Closed P opens decided) (listed : i < P .n) (undecided : cornerAt decided i ≡ 0) (is-open : rowOf opens i c ≡ 1)
+    (took : Took P opens decided i c opens′ decided′) where
   -- Taking a corner opens none.
-  took-closes : (j e : ℕ) → j < P .n → rowOf ways′ j e ≡ 1 → rowOf ways j e ≡ 1
+  took-closes : (j e : ℕ) → j < P .n → rowOf opens′ j e ≡ 1 → rowOf opens j e ≡ 1
   took-closes j e below o = from (ℕ-discrete j i)
     where
-      from : Dec (j ≡ i) → rowOf ways j e ≡ 1
-      from (yes p) = ap (rowOf ways j) (took .alone e (rw p at o)) ∙ rw p is-open
+      from : Dec (j ≡ i) → rowOf opens j e ≡ 1
+      from (yes p) = ap (rowOf opens j) (took .alone e (rw p at o)) ∙ rw p is-open
       from (no d) = sym (took .others-open j e below d) ∙ o
 
   -- A site decided before is another site.
@@ -70,7 +71,7 @@ module _ {P : Problem} {ways ways′ decided decided′ : List ℕ} {i c : ℕ}
   took-undecided j u p = taken-decided (ap (cornerAt decided′) (sym p) ∙ u)
 
   -- A trial starts where only sites decided before are done.
-  pub trial-begins : {Done : ℕ → Type 0} → ((j : ℕ) → j < P .n → Done j → cornerAt decided j ≢ 0) → Underway P ways′ decided′ Done
+  pub trial-begins : {Done : ℕ → Type 0} → ((j : ℕ) → j < P .n → Done j → cornerAt decided j ≢ 0) → Underway P opens′ decided′ Done
   trial-begins before =
       record {
         candidate = λ j e below o. closed .candidate j e below (took-closes j e below o);
@@ -90,22 +91,22 @@ module _ {P : Problem} {ways ways′ decided decided′ : List ℕ} {i c : ℕ}
       was-undecided : (j : ℕ) → j < P .n → cornerAt decided′ j ≡ 0 → cornerAt decided j ≡ 0
       was-undecided j below u = sym (took .others-decided j below (took-undecided j u)) ∙ u
 
-      was-shut : (j e : ℕ) → j < P .n → cornerAt decided′ j ≡ 0 → rowOf ways′ j e ≢ 1 → rowOf ways j e ≢ 1
+      was-shut : (j e : ℕ) → j < P .n → cornerAt decided′ j ≡ 0 → rowOf opens′ j e ≢ 1 → rowOf opens j e ≢ 1
       was-shut j e below u shut o = shut (took .others-open j e below (took-undecided j u) ∙ o)
 
-      decided-open : (j : ℕ) → j < P .n → cornerAt decided′ j ≢ 0 → Dec (j ≡ i) → rowOf ways′ j (cornerAt decided′ j) ≡ 1
+      decided-open : (j : ℕ) → j < P .n → cornerAt decided′ j ≢ 0 → Dec (j ≡ i) → rowOf opens′ j (cornerAt decided′ j) ≡ 1
       decided-open j below d (yes p) = rw (p, took .takes) (took .is-open)
       decided-open j below d (no n) =
           let same = took .others-decided j below n in
-          ap (rowOf ways′ j) same ∙ took .others-open j (cornerAt decided j) below n ∙ closed .decided-open j below (rw same at d)
+          ap (rowOf opens′ j) same ∙ took .others-open j (cornerAt decided j) below n ∙ closed .decided-open j below (rw same at d)
 
-      decided-alone : (j e : ℕ) → j < P .n → cornerAt decided′ j ≢ 0 → rowOf ways′ j e ≡ 1 → Dec (j ≡ i) → e ≡ cornerAt decided′ j
+      decided-alone : (j e : ℕ) → j < P .n → cornerAt decided′ j ≢ 0 → rowOf opens′ j e ≡ 1 → Dec (j ≡ i) → e ≡ cornerAt decided′ j
       decided-alone j e below d o (yes p) = took .alone e (rw p at o) ∙ sym (ap (cornerAt decided′) p ∙ took .takes)
       decided-alone j e below d o (no n) =
           let same = took .others-decided j below n in
           closed .decided-alone j e below (rw same at d) (sym (took .others-open j e below n) ∙ o) ∙ sym same
 
-      two-left : (j : ℕ) → j < P .n → j ≢ i → TwoOpen ways j → TwoOpen ways′ j
+      two-left : (j : ℕ) → j < P .n → j ≢ i → TwoOpen opens j → TwoOpen opens′ j
       two-left j below n two =
           record {
             one = two .one;
@@ -116,7 +117,7 @@ module _ {P : Problem} {ways ways′ decided decided′ : List ℕ} {i c : ℕ}
           }
 
   -- A solution that follows the closed state and has corner c at site i follows the trial's start.
-  pub trial-later-start : Later P ways decided i c ways′ decided′
+  pub trial-later-start : Later P opens decided i c opens′ decided′
   trial-later-start =
       record {
         takes = took .takes;
@@ -124,37 +125,37 @@ module _ {P : Problem} {ways ways′ decided decided′ : List ℕ} {i c : ℕ}
         follows = λ cs solution follows takes. record { follows = λ j below. follow cs follows takes j below (ℕ-discrete j i) };
       }
     where
-      follow : (cs : List ℕ) → Follows P ways cs → cornerAt cs i ≡ c → (j : ℕ) → j < P .n → Dec (j ≡ i)
-          → rowOf ways′ j (cornerAt cs j) ≡ 1
+      follow : (cs : List ℕ) → Follows P opens cs → cornerAt cs i ≡ c → (j : ℕ) → j < P .n → Dec (j ≡ i)
+          → rowOf opens′ j (cornerAt cs j) ≡ 1
       follow cs follows takes j below (yes p) = rw (p, takes) (took .is-open)
       follow cs follows takes j below (no n) = took .others-open j (cornerAt cs j) below n ∙ follows .follows j below
 
-module _ {P : Problem} {ways decided : List ℕ} {Done : ℕ → Type 0} {k : ℕ}
-    (underway : Underway P ways decided Done) (listed : k < P .n) (is-decided : cornerAt decided k ≢ 0) where
+module _ {P : Problem} {opens decided : List ℕ} {Done : ℕ → Type 0} {k : ℕ}
+    (underway : Underway P opens decided Done) (listed : k < P .n) (is-decided : cornerAt decided k ≢ 0) where
   -- A solution that follows the state has the decided corner at site k, so no other corner of it conflicts with that one.
-  decided-apart : (cs : List ℕ) → Solution P cs → Follows P ways cs → (j : ℕ) → j < P .n → j ≢ k
+  decided-apart : (cs : List ℕ) → Solution P cs → Follows P opens cs → (j : ℕ) → j < P .n → j ≢ k
       → P .Conflict k (cornerAt decided k) j (cornerAt cs j) → ⊥
   decided-apart cs solution follows j below different conflict =
       solution .apart k j listed below (λ p. different (sym p))
       (rw (underway .decided-alone k (cornerAt cs k) listed is-decided (follows .follows k listed)) conflict)
 
   -- A trial that is stuck refuses the corner that it took.
-  pub stuck-refused : {ways₀ decided₀ : List ℕ} {i c : ℕ} → Stuck P ways decided k → Later P ways₀ decided₀ i c ways decided
-      → Refused P ways₀ i c
+  pub stuck-refused : {opens₀ decided₀ : List ℕ} {i c : ℕ} → Stuck P opens decided k → Later P opens₀ decided₀ i c opens decided
+      → Refused P opens₀ i c
   stuck-refused stuck later =
       record { refused = λ cs solution follows takes. refute cs solution (later .follows cs solution follows takes) }
     where
-      refute : (cs : List ℕ) → Solution P cs → Follows P ways cs → ⊥
+      refute : (cs : List ℕ) → Solution P cs → Follows P opens cs → ⊥
       refute cs solution follows =
           decided-apart cs solution follows (stuck .site) (stuck .listed) (stuck .different)
           (stuck .all-conflict (cornerAt cs (stuck .site)) (follows .follows (stuck .site) (stuck .listed)))
 
-  module _ {ways′ decided′ : List ℕ} (carried : Carried P ways decided k ways′ decided′) where
+  module _ {opens′ decided′ : List ℕ} (carried : Carried P Every opens decided k opens′ decided′) where
     -- Carrying out a decision opens no corner.
-    carried-closes : (j e : ℕ) → j < P .n → rowOf ways′ j e ≡ 1 → rowOf ways j e ≡ 1
+    carried-closes : (j e : ℕ) → j < P .n → rowOf opens′ j e ≡ 1 → rowOf opens j e ≡ 1
     carried-closes j e below o = from (ℕ-discrete j k)
       where
-        from : Dec (j ≡ k) → rowOf ways j e ≡ 1
+        from : Dec (j ≡ k) → rowOf opens j e ≡ 1
         from (yes p) = rw p (sym (carried .own-open e) ∙ rw p at o)
         from (no d) = carried .others j below d .closes e o
 
@@ -171,10 +172,10 @@ module _ {P : Problem} {ways decided : List ℕ} {Done : ℕ → Type 0} {k : �
     undecided-other j u p = is-decided (ap (cornerAt decided) (sym p) ∙ u)
 
     -- Carrying out a decision leaves decided corners open.
-    carried-open : (j : ℕ) → j < P .n → cornerAt decided j ≢ 0 → rowOf ways′ j (cornerAt decided j) ≡ 1
+    carried-open : (j : ℕ) → j < P .n → cornerAt decided j ≢ 0 → rowOf opens′ j (cornerAt decided j) ≡ 1
     carried-open j below d = from (ℕ-discrete j k)
       where
-        from : Dec (j ≡ k) → rowOf ways′ j (cornerAt decided j) ≡ 1
+        from : Dec (j ≡ k) → rowOf opens′ j (cornerAt decided j) ≡ 1
         from (yes p) = rw p (carried .own-open (cornerAt decided k) ∙ underway .decided-open k listed is-decided)
         from (no n) = carried .others j below n .stays-open d
 
@@ -187,18 +188,18 @@ module _ {P : Problem} {ways decided : List ℕ} {Done : ℕ → Type 0} {k : �
         from (no d) = absurd (d (sym (carried-stays j below d) ∙ u))
 
     -- A solution that follows the state follows it after the decision is carried out.
-    carried-follows : (cs : List ℕ) → Solution P cs → Follows P ways cs → Follows P ways′ cs
+    carried-follows : (cs : List ℕ) → Solution P cs → Follows P opens cs → Follows P opens′ cs
     carried-follows cs solution follows = record { follows = λ j below. follow j below (ℕ-discrete j k) }
       where
-        follow : (j : ℕ) → j < P .n → Dec (j ≡ k) → rowOf ways′ j (cornerAt cs j) ≡ 1
+        follow : (j : ℕ) → j < P .n → Dec (j ≡ k) → rowOf opens′ j (cornerAt cs j) ≡ 1
         follow j below (yes p) = rw p (carried .own-open (cornerAt cs k) ∙ follows .follows k listed)
         follow j below (no n) =
             ⊎-elim (λ o. o) (λ conflict. absurd (decided-apart cs solution follows j below n conflict))
             (carried .others j below n .keeps (cornerAt cs j) (follows .follows j below))
 
     -- The state after a decision is carried out is still a later state of the search that took c at i.
-    pub carried-later : {ways₀ decided₀ : List ℕ} {i c : ℕ} → i < P .n → c ≢ 0 → Later P ways₀ decided₀ i c ways decided
-        → Later P ways₀ decided₀ i c ways′ decided′
+    pub carried-later : {opens₀ decided₀ : List ℕ} {i c : ℕ} → i < P .n → c ≢ 0 → Later P opens₀ decided₀ i c opens decided
+        → Later P opens₀ decided₀ i c opens′ decided′
     carried-later {i = i} below some later =
         record {
           takes = carried-stays i below (rw (later .takes) some) ∙ later .takes;
@@ -207,16 +208,16 @@ module _ {P : Problem} {ways decided : List ℕ} {Done : ℕ → Type 0} {k : �
         }
 
     -- After the decision of site k is carried out, the trial is under way with site k done too.
-    pub carried-underway : {Done′ : ℕ → Type 0} → ((j : ℕ) → j < P .n → j ≢ k → Done′ j → Done j) → Underway P ways′ decided′ Done′
+    pub carried-underway : {Done′ : ℕ → Type 0} → ((j : ℕ) → j < P .n → j ≢ k → Done′ j → Done j) → Underway P opens′ decided′ Done′
     carried-underway {Done′} others =
         record {
           candidate = λ j e below o. underway .candidate j e below (carried-closes j e below o);
           decided-open = λ j below d. decided-open j below d (ℕ-discrete (cornerAt decided j) 0);
           decided-alone = λ j e below d o. decided-alone j e below d o (ℕ-discrete (cornerAt decided j) 0);
           closed-by = λ j e below u candidate shut.
-              closed-by j e below (was-undecided j below u) candidate shut (ℕ-discrete (rowOf ways j e) 1);
+              closed-by j e below (was-undecided j below u) candidate shut (ℕ-discrete (rowOf opens j e) 1);
           two-left = λ j e below u candidate shut.
-              two-left j e below u (was-undecided j below u) candidate shut (ℕ-discrete (rowOf ways j e) 1);
+              two-left j e below u (was-undecided j below u) candidate shut (ℕ-discrete (rowOf opens j e) 1);
           done-decided = λ j below done.
               rw (carried-stays j below (done-decided j below done (ℕ-discrete j k))) (done-decided j below done (ℕ-discrete j k));
           apart = λ i j e below other different done o conflict.
@@ -225,18 +226,18 @@ module _ {P : Problem} {ways decided : List ℕ} {Done : ℕ → Type 0} {k : �
         }
       where
         decided-open : (j : ℕ) → j < P .n → cornerAt decided′ j ≢ 0 → Dec (cornerAt decided j ≡ 0)
-            → rowOf ways′ j (cornerAt decided′ j) ≡ 1
+            → rowOf opens′ j (cornerAt decided′ j) ≡ 1
         decided-open j below d (yes u) = carried .others j below (undecided-other j u) .decides-open u d
-        decided-open j below d (no n) = ap (rowOf ways′ j) (carried-stays j below n) ∙ carried-open j below n
+        decided-open j below d (no n) = ap (rowOf opens′ j) (carried-stays j below n) ∙ carried-open j below n
 
-        decided-alone : (j e : ℕ) → j < P .n → cornerAt decided′ j ≢ 0 → rowOf ways′ j e ≡ 1 → Dec (cornerAt decided j ≡ 0)
+        decided-alone : (j e : ℕ) → j < P .n → cornerAt decided′ j ≢ 0 → rowOf opens′ j e ≡ 1 → Dec (cornerAt decided j ≡ 0)
             → e ≡ cornerAt decided′ j
         decided-alone j e below d o (yes u) = carried .others j below (undecided-other j u) .decides-alone e u d o
         decided-alone j e below d o (no n) =
             underway .decided-alone j e below n (carried-closes j e below o) ∙ sym (carried-stays j below n)
 
-        closed-by : (j e : ℕ) → j < P .n → cornerAt decided j ≡ 0 → P .Candidate j e → rowOf ways′ j e ≢ 1
-            → Dec (rowOf ways j e ≡ 1) → ClosedBy P decided′ j e
+        closed-by : (j e : ℕ) → j < P .n → cornerAt decided j ≡ 0 → P .Candidate j e → rowOf opens′ j e ≢ 1
+            → Dec (rowOf opens j e ≡ 1) → ClosedBy P decided′ j e
         closed-by j e below u candidate shut (no n) = closed-by-stays carried-stays (underway .closed-by j e below u candidate n)
         closed-by j e below u candidate shut (yes o) =
             ⊎-elim (λ p. absurd (shut p))
@@ -249,34 +250,34 @@ module _ {P : Problem} {ways decided : List ℕ} {Done : ℕ → Type 0} {k : �
             })
             (carried .others j below (undecided-other j u) .keeps e o)
 
-        two-open : (j : ℕ) → j < P .n → cornerAt decided′ j ≡ 0 → cornerAt decided j ≡ 0 → (two : TwoOpen ways j)
-            → Dec (rowOf ways′ j (two .one) ≡ 1) → Dec (rowOf ways′ j (two .two) ≡ 1) → TwoOpen ways′ j
+        two-open : (j : ℕ) → j < P .n → cornerAt decided′ j ≡ 0 → cornerAt decided j ≡ 0 → (two : TwoOpen opens j)
+            → Dec (rowOf opens′ j (two .one) ≡ 1) → Dec (rowOf opens′ j (two .two) ≡ 1) → TwoOpen opens′ j
         two-open j below u w two (yes p) (yes q) =
             record { one = two .one; two = two .two; differ = two .differ; one-open = p; two-open = q }
         two-open j below u w two (no p) q = carried .others j below (undecided-other j w) .two-left (two .one) u (two .one-open) p
         two-open j below u w two (yes p) (no q) = carried .others j below (undecided-other j w) .two-left (two .two) u (two .two-open) q
 
-        two-left : (j e : ℕ) → j < P .n → cornerAt decided′ j ≡ 0 → cornerAt decided j ≡ 0 → P .Candidate j e → rowOf ways′ j e ≢ 1
-            → Dec (rowOf ways j e ≡ 1) → TwoOpen ways′ j
+        two-left : (j e : ℕ) → j < P .n → cornerAt decided′ j ≡ 0 → cornerAt decided j ≡ 0 → P .Candidate j e → rowOf opens′ j e ≢ 1
+            → Dec (rowOf opens j e ≡ 1) → TwoOpen opens′ j
         two-left j e below u w candidate shut (yes o) = carried .others j below (undecided-other j w) .two-left e u o shut
         two-left j e below u w candidate shut (no n) =
             let two = underway .two-left j e below w candidate n in
-            two-open j below u w two (ℕ-discrete (rowOf ways′ j (two .one)) 1) (ℕ-discrete (rowOf ways′ j (two .two)) 1)
+            two-open j below u w two (ℕ-discrete (rowOf opens′ j (two .one)) 1) (ℕ-discrete (rowOf opens′ j (two .two)) 1)
 
         done-decided : (j : ℕ) → j < P .n → Done′ j → Dec (j ≡ k) → cornerAt decided j ≢ 0
         done-decided j below done (yes p) = rw p is-decided
         done-decided j below done (no n) = underway .done-decided j below (others j below n done)
 
-        apart : (i j e : ℕ) → i < P .n → j < P .n → i ≢ j → Done′ i → rowOf ways′ j e ≡ 1
+        apart : (i j e : ℕ) → i < P .n → j < P .n → i ≢ j → Done′ i → rowOf opens′ j e ≡ 1
             → P .Conflict i (cornerAt decided i) j e → Dec (i ≡ k) → ⊥
         apart i j e below other different done o conflict (yes p) =
-            carried .others j other (λ q. different (p ∙ sym q)) .apart e o (rw p at conflict)
+            carried .others j other (λ q. different (p ∙ sym q)) .apart e tt o (rw p at conflict)
         apart i j e below other different done o conflict (no n) =
             underway .apart i j e below other different (others i below n done) (carried-closes j e other o) conflict
 
 -- A trial that has carried out every decision leaves a closed state.
-pub trial-closed : {P : Problem} {ways decided : List ℕ} {Done : ℕ → Type 0} → Underway P ways decided Done
-    → ((j : ℕ) → j < P .n → cornerAt decided j ≢ 0 → Done j) → Closed P ways decided
+pub trial-closed : {P : Problem} {opens decided : List ℕ} {Done : ℕ → Type 0} → Underway P opens decided Done
+    → ((j : ℕ) → j < P .n → cornerAt decided j ≢ 0 → Done j) → Closed P opens decided
 trial-closed underway all =
     record {
       candidate = underway .candidate;

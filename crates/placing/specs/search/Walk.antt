@@ -15,7 +15,7 @@ use Rattle.placing.specs.search.State.{Closed, Follows, Refused, Later, 
 use Rattle.placing.specs.search.Extend.{extends}
 
 -- The walk starts at the first site: every solution follows the fresh state.
-pub walk-starts : {P : Problem} {ways decided : List ℕ} → Fresh P ways decided → Walked P 0 ways decided
+pub walk-starts : {P : Problem} {opens decided : List ℕ} → Fresh P opens decided → Walked P 0 opens decided
 walk-starts fresh =
     record {
       closed = record {
@@ -32,12 +32,12 @@ walk-starts fresh =
     }
 
 -- A corner that is not open is refused.
-pub refused-closed : {P : Problem} {ways : List ℕ} {i c : ℕ} → i < P .n → rowOf ways i c ≢ 1 → Refused P ways i c
-refused-closed {ways = ways} {i = i} listed shut =
-    record { refused = λ cs solution follows takes. shut (ap (rowOf ways i) (sym takes) ∙ follows .follows i listed) }
+pub refused-closed : {P : Problem} {opens : List ℕ} {i c : ℕ} → i < P .n → rowOf opens i c ≢ 1 → Refused P opens i c
+refused-closed {opens = opens} {i = i} listed shut =
+    record { refused = λ cs solution follows takes. shut (ap (rowOf opens i) (sym takes) ∙ follows .follows i listed) }
 
 -- A solution that follows a closed state has the decided corners.
-pub follows-decided : {P : Problem} {ways decided cs : List ℕ} → Closed P ways decided → Follows P ways cs
+pub follows-decided : {P : Problem} {opens decided cs : List ℕ} → Closed P opens decided → Follows P opens cs
     → (m : ℕ) → m < P .n → cornerAt decided m ≢ 0 → cornerAt cs m ≡ cornerAt decided m
 follows-decided {cs = cs} closed follows m listed d = closed .decided-alone m (cornerAt cs m) listed d (follows .follows m listed)
 
@@ -63,9 +63,9 @@ decided-next {n} {i} decided before here j reached listed = from (decLt j i)
         let last : j ≡ i = omega arith in
         rw last here
 
-module _ {P : Problem} {i : ℕ} {ways decided : List ℕ} (walked : Walked P i ways decided) (listed : i < P .n) where
+module _ {P : Problem} {i : ℕ} {opens decided : List ℕ} (walked : Walked P i opens decided) (listed : i < P .n) where
   -- The walk passes over a decided site.
-  pub walk-decided : cornerAt decided i ≢ 0 → Walked P (suc i) ways decided
+  pub walk-decided : cornerAt decided i ≢ 0 → Walked P (suc i) opens decided
   walk-decided d =
       record {
         closed = walked .closed;
@@ -74,13 +74,13 @@ module _ {P : Problem} {i : ℕ} {ways decided : List ℕ} (walked : Walked P i 
       }
 
   -- The same where the next site's number is i + 1.
-  pub walk-decided-add-one : cornerAt decided i ≢ 0 → Walked P (i + 1) ways decided
+  pub walk-decided-add-one : cornerAt decided i ≢ 0 → Walked P (i + 1) opens decided
   walk-decided-add-one d = rw add-one (walk-decided d)
 
   -- An undecided site takes the lowest corner that is not refused.
-  pub walk-takes : {ways′ decided′ : List ℕ} {c : ℕ} → cornerAt decided i ≡ 0 → ((e : ℕ) → e < c → Refused P ways i e)
-      → Closed P ways′ decided′ → Later P ways decided i c ways′ decided′ → c ≢ 0 → Walked P (i + 1) ways′ decided′
-  walk-takes {ways′} {decided′} {c} undecided lowest closed later some =
+  pub walk-takes : {opens′ decided′ : List ℕ} {c : ℕ} → cornerAt decided i ≡ 0 → ((e : ℕ) → e < c → Refused P opens i e)
+      → Closed P opens′ decided′ → Later P opens decided i c opens′ decided′ → c ≢ 0 → Walked P (i + 1) opens′ decided′
+  walk-takes {opens′} {decided′} {c} undecided lowest closed later some =
       rw add-one (record {
         closed = closed;
         all-decided = decided-next decided′ (λ j below other. rw (stays j below) (walked .all-decided j below other))
@@ -96,8 +96,8 @@ module _ {P : Problem} {i : ℕ} {ways decided : List ℕ} (walked : Walked P i 
       stays : (m : ℕ) → m < i → cornerAt decided′ m ≡ cornerAt decided m
       stays m below = later .stays m (omega arith) (before m below)
 
-      first : (cs : List ℕ) → Solution P cs → Follows P ways cs → Dec (cornerAt cs i < c) → Dec (cornerAt cs i ≡ c)
-          → Follows P ways′ cs ⊎ Greater decided′ (suc i) cs
+      first : (cs : List ℕ) → Solution P cs → Follows P opens cs → Dec (cornerAt cs i < c) → Dec (cornerAt cs i ≡ c)
+          → Follows P opens′ cs ⊎ Greater decided′ (suc i) cs
       first cs solution follows (yes below) same = absurd (lowest (cornerAt cs i) below .refused cs solution follows refl)
       first cs solution follows (no above) (yes same) = inl (later .follows cs solution follows same)
       first cs solution follows (no above) (no differs) =
@@ -109,7 +109,7 @@ module _ {P : Problem} {i : ℕ} {ways decided : List ℕ} (walked : Walked P i 
           })
 
   -- Where every corner of a site is refused there is no solution: else one would follow the state.
-  pub walk-stuck : ((e : ℕ) → Corner e → Refused P ways i e) → (cs : List ℕ) → Solution P cs → ⊥
+  pub walk-stuck : ((e : ℕ) → Corner e → Refused P opens i e) → (cs : List ℕ) → Solution P cs → ⊥
   walk-stuck refused cs solution =
       let (es, good, follows) = extends (walked .closed) solution in
       refused (cornerAt es i) (P .corner i (cornerAt es i) (good .candidate i listed)) .refused es good follows refl

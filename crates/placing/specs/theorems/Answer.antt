@@ -10,6 +10,7 @@ use native.Mathlib.Decide.{decLt}
 use lib.Dec.{lit≤}
 use lib.ListN.{length}
 use Rattle.placing.specs.declared.units.Place.{Place}
+use Rattle.placing.specs.declared.way.Way.{Way}
 use Rattle.placing.specs.declared.units.Side.the-variants.{Number, Free}
 use Rattle.placing.specs.rules.Units.{Distinct, InRange, greatestSide, freeSide}
 use Rattle.placing.specs.rules.Choice.{Good, SomeGood, First}
@@ -22,85 +23,86 @@ use Rattle.placing.specs.deciding.Answer.{firstGood, greatest, answerOf}
 use Rattle.placing.specs.theorems.Choice.{good-smaller, good-one-exists, good-at-free, good-decided, first-unique}
 
 -- The side h has no good choice.
-abbrev pub NoneGood : ℕ → List Place → Type 0
-NoneGood h ps = (es : List ℕ) → Good h ps es → ⊥
+abbrev pub NoneGood : Way → ℕ → List Place → Type 0
+NoneGood way h ps = (es : List ℕ) → Good way h ps es → ⊥
 
 -- The enumeration finds the first good choice.
-pub finds-first-good : (h : ℕ) (ps : List Place) → FirstWith (Good h ps) (firstGood h ps)
+pub finds-first-good : (way : Way) (h : ℕ) (ps : List Place) → FirstWith (Good way h ps) (firstGood way h ps)
 unfolding firstGood
-finds-first-good h ps =
-    first-with-same (λ cs passed. good-decided h ps cs .yes-holds (passed .1))
-    (λ cs good. (good .corners, holds-yes (good-decided h ps cs) good)) (first-of (length ps) (goodTest h ps))
+finds-first-good way h ps =
+    first-with-same (λ cs passed. good-decided way h ps cs .yes-holds (passed .1))
+    (λ cs good. (good .corners, holds-yes (good-decided way h ps cs) good)) (first-of (length ps) (goodTest way h ps))
 
-module _ {h : ℕ} {ps : List Place} where
+module _ {way : Way} {h : ℕ} {ps : List Place} where
   -- What it finds is the first good choice,
-  pub firstGood-some : {cs : List ℕ} → firstGood h ps ≡ some cs → First h ps cs
-  firstGood-some = found-first (finds-first-good h ps)
+  pub firstGood-some : {cs : List ℕ} → firstGood way h ps ≡ some cs → First way h ps cs
+  firstGood-some = found-first (finds-first-good way h ps)
 
   -- the first good choice is what it finds,
-  pub first-found : {cs : List ℕ} → First h ps cs → firstGood h ps ≡ some cs
-  first-found {cs} first = by-found (finds-first-good h ps)
+  pub first-found : {cs : List ℕ} → First way h ps cs → firstGood way h ps ≡ some cs
+  first-found {cs} first = by-found (finds-first-good way h ps)
     where
-      by-found : {o : Option (List ℕ)} → FirstWith (Good h ps) o → o ≡ some cs
+      by-found : {o : Option (List ℕ)} → FirstWith (Good way h ps) o → o ≡ some cs
       by-found (found good none-before) = ap some (first-unique (record { good = good; none-before = none-before }) first)
       by-found (missing no-good) = absurd (no-good cs (first .good))
 
   -- where it finds nothing there is no good choice,
-  pub firstGood-none : firstGood h ps ≡ none → NoneGood h ps
-  firstGood-none = nothing-found (finds-first-good h ps)
+  pub firstGood-none : firstGood way h ps ≡ none → NoneGood way h ps
+  firstGood-none = nothing-found (finds-first-good way h ps)
 
   -- and where there is none it finds nothing.
-  pub none-found : NoneGood h ps → firstGood h ps ≡ none
-  none-found = finds-nothing (finds-first-good h ps)
+  pub none-found : NoneGood way h ps → firstGood way h ps ≡ none
+  none-found = finds-nothing (finds-first-good way h ps)
 
 -- Where a good choice exists there is a first one.
-pub some-first : {h : ℕ} {ps : List Place} {A : Type 0} → SomeGood h ps → ((cs : List ℕ) → First h ps cs → A) → A
-some-first {h} {ps} {A} some-good next = by-found (finds-first-good h ps)
+pub some-first : {way : Way} {h : ℕ} {ps : List Place} {A : Type 0} → SomeGood way h ps → ((cs : List ℕ) → First way h ps cs → A) → A
+some-first {way} {h} {ps} {A} some-good next = by-found (finds-first-good way h ps)
   where
-    by-found : {o : Option (List ℕ)} → FirstWith (Good h ps) o → A
+    by-found : {o : Option (List ℕ)} → FirstWith (Good way h ps) o → A
     by-found (found {cs} good none-before) = next cs (record { good = good; none-before = none-before })
     by-found (missing no-good) = absurd (no-good (some-good .choice) (some-good .good))
 
 -- Where h has no good choice no greater side has one.
-none-above : {h : ℕ} {ps : List Place} → NoneGood h ps → (k : ℕ) → h ≤ k → NoneGood k ps
+none-above : {way : Way} {h : ℕ} {ps : List Place} → NoneGood way h ps → (k : ℕ) → h ≤ k → NoneGood way k ps
 none-above no-good k greater es good = no-good es (good-smaller greater good)
 
-module _ (ps : List Place) (places : Distinct ps) where
+module _ (way : Way) (ps : List Place) (places : Distinct ps) where
   -- A side without a good choice is above 1.
-  above-one : (h : ℕ) → NoneGood (suc h) ps → 1 ≤ h
+  above-one : (h : ℕ) → NoneGood way (suc h) ps → 1 ≤ h
   above-one zero no-good = absurd (no-good _ (good-one-exists places))
   above-one (suc h) no-good = omega arith
 
   -- What follows a search for good choices at h gives the answer, if it does so after each of its two ends.
-  after-search : {h : ℕ} {o : Option (List ℕ)} {done : List ℕ → Answer} {else : Answer} → FirstWith (Good h ps) o
-      → ((cs : List ℕ) → First h ps cs → IsAnswer ps (done cs)) → (NoneGood h ps → IsAnswer ps else)
-      → IsAnswer ps (elim o [ some cs ↦ done cs | none ↦ else ])
+  after-search : {h : ℕ} {o : Option (List ℕ)} {done : List ℕ → Answer} {else : Answer} → FirstWith (Good way h ps) o
+      → ((cs : List ℕ) → First way h ps cs → IsAnswer way ps (done cs)) → (NoneGood way h ps → IsAnswer way ps else)
+      → IsAnswer way ps (elim o [ some cs ↦ done cs | none ↦ else ])
   after-search (found {cs} good none-before) is-done is-else = is-done cs (record { good = good; none-before = none-before })
   after-search (missing none-here) is-done is-else = is-else none-here
 
   -- From a side down above which there is no good choice, the search finds the answer.
-  greatest-is : (h : ℕ) → 1 ≤ h → h ≤ greatestSide → NoneGood freeSide ps → ((k : ℕ) → h < k → NoneGood k ps) → IsAnswer ps (greatest h ps)
+  greatest-is : (h : ℕ) → 1 ≤ h → h ≤ greatestSide → NoneGood way freeSide ps → ((k : ℕ) → h < k → NoneGood way k ps)
+      → IsAnswer way ps (greatest way h ps)
   unfolding greatest
   greatest-is zero least most not-free above = absurd (omega arith)
   greatest-is (suc h) least most not-free above =
-      after-search (finds-first-good (suc h) ps) (λ cs first. is-number not-free least most first above)
+      after-search (finds-first-good way (suc h) ps) (λ cs first. is-number not-free least most first above)
       (λ none-here. greatest-is h (above-one h none-here) (omega arith) not-free (none-above none-here))
 
   -- The search gives what document 01 says.
-  pub answer-is : IsAnswer ps (answerOf ps)
+  pub answer-is : IsAnswer way ps (answerOf way ps)
   unfolding answerOf
   answer-is =
-      after-search (finds-first-good freeSide ps) (λ cs. is-free)
+      after-search (finds-first-good way freeSide ps) (λ cs. is-free)
       (λ not-free. greatest-is greatestSide (lit≤ tt) (lit≤ tt) not-free (none-above not-free))
 
 -- There is one answer.
-pub answer-unique : {ps : List Place} {one other : Answer} → IsAnswer ps one → IsAnswer ps other → one ≡ other
+pub answer-unique : {way : Way} {ps : List Place} {one other : Answer} → IsAnswer way ps one → IsAnswer way ps other → one ≡ other
 answer-unique (is-free first) (is-free first′) = ap free (first-unique first first′)
 answer-unique (is-free first) (is-number not-free least most first′ above) = absurd (not-free _ (first .good))
 answer-unique (is-number not-free least most first above) (is-free first′) = absurd (not-free _ (first′ .good))
-answer-unique {ps} (is-number {h} {cs} not-free least most first above) (is-number {h = k} {cs = es} not-free′ least′ most′ first′ above′) =
+answer-unique {way} {ps} (is-number {h} {cs} not-free least most first above) (is-number {h = k} {cs = es} not-free′ least′ most′ first′ above′) =
     let side : h ≡ k = same-side (decLt h k) (decLt k h) in
-    let corners : cs ≡ es = first-unique (subst (λ j. First j ps cs) side first) first′ in
+    let corners : cs ≡ es = first-unique (subst (λ j. First way j ps cs) side first) first′ in
     λ i. numbered (side i) (corners i)
   where
     same-side : Dec (h < k) → Dec (k < h) → h ≡ k
@@ -109,38 +111,38 @@ answer-unique {ps} (is-number {h} {cs} not-free least most first above) (is-numb
     same-side (no not-less) (no not-more) = omega arith
 
 -- An answer is the one that the search gives, and the other way round.
-pub is-answer-of : {ps : List Place} {answer : Answer} → Distinct ps → IsAnswer ps answer → answer ≡ answerOf ps
-is-answer-of {ps} places is-answer = answer-unique is-answer (answer-is ps places)
+pub is-answer-of : {way : Way} {ps : List Place} {answer : Answer} → Distinct ps → IsAnswer way ps answer → answer ≡ answerOf way ps
+is-answer-of {way} {ps} places is-answer = answer-unique is-answer (answer-is way ps places)
 
 -- A side that has a first good choice while the next side has none is the answer's.
-pub answer-found : {ps : List Place} {h : ℕ} {cs : List ℕ} → Distinct ps → 1 ≤ h → h ≤ greatestSide → First h ps cs
-    → NoneGood (suc h) ps → answerOf ps ≡ numbered h cs
+pub answer-found : {way : Way} {ps : List Place} {h : ℕ} {cs : List ℕ} → Distinct ps → 1 ≤ h → h ≤ greatestSide → First way h ps cs
+    → NoneGood way (suc h) ps → answerOf way ps ≡ numbered h cs
 answer-found places least most first none-next =
     sym (is-answer-of places (is-number (none-above none-next freeSide (omega arith)) least most first (λ k. none-above none-next k)))
 
 -- A first good choice at 20,001 is the answer's.
-pub answer-free : {ps : List Place} {cs : List ℕ} → Distinct ps → First freeSide ps cs → answerOf ps ≡ free cs
+pub answer-free : {way : Way} {ps : List Place} {cs : List ℕ} → Distinct ps → First way freeSide ps cs → answerOf way ps ≡ free cs
 answer-free places first = sym (is-answer-of places (is-free first))
 
 -- So the answer's side is one that has a good choice while the next side has none,
-pub side-found : {ps : List Place} {h : ℕ} → Distinct ps → 1 ≤ h → h ≤ greatestSide → SomeGood h ps → NoneGood (suc h) ps
-    → answerOf ps .side ≡ Number (record { 0 = h })
+pub side-found : {way : Way} {ps : List Place} {h : ℕ} → Distinct ps → 1 ≤ h → h ≤ greatestSide → SomeGood way h ps
+    → NoneGood way (suc h) ps → answerOf way ps .side ≡ Number (record { 0 = h })
 side-found places least most some-good none-next =
     some-first some-good (λ cs first. ap (λ (a : Answer). a .side) (answer-found places least most first none-next))
 
 -- and free where one exists at 20,001.
-pub side-free : {ps : List Place} → Distinct ps → SomeGood freeSide ps → answerOf ps .side ≡ Free
+pub side-free : {way : Way} {ps : List Place} → Distinct ps → SomeGood way freeSide ps → answerOf way ps .side ≡ Free
 side-free places some-good = some-first some-good (λ cs first. ap (λ (a : Answer). a .side) (answer-free places first))
 
-module _ {ps : List Place} {h : ℕ} {cs : List ℕ} where
+module _ {way : Way} {ps : List Place} {h : ℕ} {cs : List ℕ} where
   -- The corners of a numbered answer are a good choice at its side,
-  pub answer-good : IsAnswer ps (numbered h cs) → Good h ps cs
+  pub answer-good : IsAnswer way ps (numbered h cs) → Good way h ps cs
   answer-good (is-number not-free least most first above) = first .good
 
   -- and no good choice exists at any greater side.
-  pub answer-none-above : IsAnswer ps (numbered h cs) → (k : ℕ) → h < k → NoneGood k ps
+  pub answer-none-above : IsAnswer way ps (numbered h cs) → (k : ℕ) → h < k → NoneGood way k ps
   answer-none-above (is-number not-free least most first above) = above
 
 -- The corners of a free answer are a good choice at every side.
-pub free-good : {ps : List Place} {cs : List ℕ} → InRange ps → IsAnswer ps (free cs) → (h : ℕ) → Good h ps cs
+pub free-good : {way : Way} {ps : List Place} {cs : List ℕ} → InRange ps → IsAnswer way ps (free cs) → (h : ℕ) → Good way h ps cs
 free-good range (is-free first) = good-at-free range (first .good)

@@ -10,6 +10,7 @@ use lib.Dec.{T, leb, eqb}
 use Rattle.placing.specs.declared.units.Place.{Place}
 use Rattle.placing.specs.declared.units.Side.{Side}
 use Rattle.placing.specs.declared.units.Side.the-variants.{Number, Free}
+use Rattle.placing.specs.declared.way.Way.{Way}
 use Rattle.placing.specs.rules.Units.{Distinct, greatestSide, freeSide}
 use Rattle.placing.specs.rules.Choice.{Good}
 use Rattle.placing.specs.rules.Answer.{Answer}
@@ -48,15 +49,15 @@ found-decides (some es) none = decides-no (Option·some-ne-none es)
 found-decides (some es) (some cs) = decides-same (ap some) (λ p. cc) (equal-decides es cs)
 
 -- The pruned search finds these corners at 20,001, or at this side with nothing at the next.
-abbrev answerTest : List Place → Side → List ℕ → Bool
-answerTest ps Free cs = foundTest (prunedFirst freeSide ps) (some cs)
-answerTest ps (Number h) cs =
+abbrev answerTest : Way → List Place → Side → List ℕ → Bool
+answerTest way ps Free cs = foundTest (prunedFirst way freeSide ps) (some cs)
+answerTest way ps (Number h) cs =
     (leb 1 (h .0) && leb (h .0) greatestSide)
-    && (foundTest (prunedFirst (h .0) ps) (some cs) && foundTest (prunedFirst (suc (h .0)) ps) none)
+    && (foundTest (prunedFirst way (h .0) ps) (some cs) && foundTest (prunedFirst way (suc (h .0)) ps) none)
 
 -- An answer is tested with the places for being distinct.
-abbrev pub checkedTest : List Place → Answer → Bool
-checkedTest ps answer = distinctTest ps && answerTest ps (answer .side) (answer .corners)
+abbrev pub checkedTest : Way → List Place → Answer → Bool
+checkedTest way ps answer = distinctTest ps && answerTest way ps (answer .side) (answer .corners)
 
 -- What a passed test decides.
 pub passed : {b : Bool} {A : Type 0} → Decides b A → T b → A
@@ -69,27 +70,27 @@ both-passed true b t = (tt, t)
 both-passed false b t = absurd t
 
 -- A passed test of an answer gives the answer.
-answer-right : {ps : List Place} (side : Side) (cs : List ℕ) → Distinct ps → T (answerTest ps side cs)
-    → answerOf ps ≡ record { side = side; corners = cs }
-answer-right {ps} Free cs places test =
-    answer-free places (found-first (pruned-first freeSide ps) (passed (found-decides (prunedFirst freeSide ps) (some cs)) test))
-answer-right {ps} (Number h) cs places test =
+answer-right : (way : Way) {ps : List Place} (side : Side) (cs : List ℕ) → Distinct ps → T (answerTest way ps side cs)
+    → answerOf way ps ≡ record { side = side; corners = cs }
+answer-right way {ps} Free cs places test =
+    answer-free places (found-first (pruned-first way freeSide ps) (passed (found-decides (prunedFirst way freeSide ps) (some cs)) test))
+answer-right way {ps} (Number h) cs places test =
     let in-range = both-decide (le-decides 1 (h .0)) (le-decides (h .0) greatestSide) in
-    let searched = both-decide (found-decides (prunedFirst (h .0) ps) (some cs)) (found-decides (prunedFirst (suc (h .0)) ps) none) in
+    let searched = both-decide (found-decides (prunedFirst way (h .0) ps) (some cs)) (found-decides (prunedFirst way (suc (h .0)) ps) none) in
     let r = passed (both-decide in-range searched) test in
-    answer-found places (r .0 .0) (r .0 .1) (found-first (pruned-first (h .0) ps) (r .1 .0))
-    (nothing-found (pruned-first (suc (h .0)) ps) (r .1 .1))
+    answer-found places (r .0 .0) (r .0 .1) (found-first (pruned-first way (h .0) ps) (r .1 .0))
+    (nothing-found (pruned-first way (suc (h .0)) ps) (r .1 .1))
 
 -- The pruned search finds what plain search does.
-pub pruned-same : (h : ℕ) (ps : List Place) → prunedFirst h ps ≡ firstGood h ps
-pruned-same h ps = by-found (pruned-first h ps)
+pub pruned-same : (way : Way) (h : ℕ) (ps : List Place) → prunedFirst way h ps ≡ firstGood way h ps
+pruned-same way h ps = by-found (pruned-first way h ps)
   where
-    by-found : {o : Option (List ℕ)} → FirstWith (Good h ps) o → o ≡ firstGood h ps
+    by-found : {o : Option (List ℕ)} → FirstWith (Good way h ps) o → o ≡ firstGood way h ps
     by-found (found good none-before) = sym (first-found (record { good = good; none-before = none-before }))
     by-found (missing no-good) = sym (none-found no-good)
 
 -- An answer that passes its test is the answer.
-pub checked-right : (ps : List Place) (answer : Answer) → T (checkedTest ps answer) → answerOf ps ≡ answer
-checked-right ps answer test =
-    let parts = both-passed (distinctTest ps) (answerTest ps (answer .side) (answer .corners)) test in
-    answer-right (answer .side) (answer .corners) (passed (distinct-decides ps) (parts .0)) (parts .1)
+pub checked-right : (way : Way) (ps : List Place) (answer : Answer) → T (checkedTest way ps answer) → answerOf way ps ≡ answer
+checked-right way ps answer test =
+    let parts = both-passed (distinctTest ps) (answerTest way ps (answer .side) (answer .corners)) test in
+    answer-right way (answer .side) (answer .corners) (passed (distinct-decides ps) (parts .0)) (parts .1)

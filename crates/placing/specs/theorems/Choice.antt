@@ -8,10 +8,13 @@ use native.Mathlib.Decide.{ℕ-discrete, decLt}
 use native.Mathlib.Omega.{arith}
 use lib.ListN.{length, replicate, length-replicate, getD-replicate}
 use Rattle.placing.specs.declared.units.Place.{Place}
+use Rattle.placing.specs.declared.way.Way.{Way}
+use Rattle.placing.specs.declared.way.Way.the-variants.{Usual, Above}
 use Rattle.placing.specs.rules.Units.{Axis, along, dist, siteAt, greatestCoordinate, freeSide, Distinct, InRange}
 use Rattle.placing.specs.rules.Corner.{Corner}
 use Rattle.placing.specs.rules.Label.{Meet}
-use Rattle.placing.specs.rules.Choice.{cornerAt, Corners, MeetingPair, Good, First, Before, lower, later}
+use Rattle.placing.specs.rules.Crowd.{Crowded}
+use Rattle.placing.specs.rules.Choice.{cornerAt, Corners, MeetingPair, Allowed, uncrowded, at-most-two, Good, First, Before, lower, later}
 use Rattle.placing.specs.deciding.Decides.{Decides}
 use Rattle.placing.specs.deciding.Tests.{goodTest, good-decides}
 use Rattle.placing.specs.theorems.Corner.{on-axis}
@@ -34,33 +37,49 @@ meeting-at pair = meeting-of (pair .first) (pair .second) (pair .first-listed) (
 
 -- ---- monotone
 
--- "A good choice at h is one at every smaller side."
-pub good-smaller : {h k : ℕ} {ps : List Place} {cs : List ℕ} → k ≤ h → Good h ps cs → Good k ps cs
+-- A corner that is allowed at h is so at every smaller side,
+allowed-smaller : {way : Way} {h k : ℕ} {ps : List Place} {i c : ℕ} → k ≤ h → Allowed way h ps i c → Allowed way k ps i c
+allowed-smaller smaller (uncrowded none) = uncrowded (λ crowded. none (crowded-larger smaller crowded))
+allowed-smaller smaller (at-most-two low) = at-most-two low
+
+-- and so, "a good choice at h is one at every smaller side".
+pub good-smaller : {way : Way} {h k : ℕ} {ps : List Place} {cs : List ℕ} → k ≤ h → Good way h ps cs → Good way k ps cs
 good-smaller smaller good =
     record {
       corners = good .corners;
-      uncrowded = λ i listed crowded. good .uncrowded i listed (crowded-larger smaller crowded);
+      allowed = λ i listed. allowed-smaller smaller (good .allowed i listed);
       apart = λ pair. good .apart (meeting-at pair (meet-larger-whole smaller (pair .meet)));
     }
 
 -- ---- at one
 
--- At h = 1 every choice of corners is good.
-pub good-at-one : {ps : List Place} {cs : List ℕ} → Distinct ps → Corners (length ps) cs → Good 1 ps cs
-good-at-one places corners =
+-- At h = 1 no corner is crowded,
+none-crowded : {ps : List Place} → Distinct ps → (i c : ℕ) → i < length ps → Crowded 1 ps i c → ⊥
+none-crowded places i c listed crowded =
+    places .distinct i (crowded .other) listed (crowded .listed) (Ne·symm (crowded .different)) (doubled-covers-one (crowded .covered))
+
+-- every choice of corners that the way allows there is good,
+pub good-at-one : {way : Way} {ps : List Place} {cs : List ℕ} → Distinct ps → Corners (length ps) cs
+    → ((i : ℕ) → i < length ps → Allowed way 1 ps i (cornerAt cs i)) → Good way 1 ps cs
+good-at-one places corners allowed =
     record {
       corners = corners;
-      uncrowded = λ i listed crowded.
-          places .distinct i (crowded .other) listed (crowded .listed) (Ne·symm (crowded .different))
-          (doubled-covers-one (crowded .covered));
+      allowed = allowed;
       apart = λ pair.
           places .distinct (pair .first) (pair .second) (pair .first-listed) (pair .second-listed) (pair .different)
           (meet-one (pair .meet));
     }
 
+-- and every way allows corner 1.
+one-allowed : {ps : List Place} → Distinct ps → (way : Way) (i : ℕ) → i < length ps → Allowed way 1 ps i 1
+one-allowed places Usual i listed = uncrowded (none-crowded places i 1 listed)
+one-allowed places Above i listed = at-most-two {c = 1} (omega arith)
+
 -- "A good choice exists at h = 1 always": corner 1 for every site.
-pub good-one-exists : {ps : List Place} → Distinct ps → Good 1 ps (replicate (length ps) 1)
-good-one-exists {ps} places = good-at-one places (record { one-each = length-replicate (length ps) 1; corner = ones })
+pub good-one-exists : {way : Way} {ps : List Place} → Distinct ps → Good way 1 ps (replicate (length ps) 1)
+good-one-exists {way} {ps} places =
+    good-at-one places (record { one-each = length-replicate (length ps) 1; corner = ones }) (λ i listed.
+    rw (getD-replicate {A = ℕ} (length ps) i 1 0 listed) (one-allowed places way i listed))
   where
     ones : (i : ℕ) → i < length ps → Corner (cornerAt (replicate (length ps) 1) i)
     ones i listed = rw (getD-replicate {A = ℕ} (length ps) i 1 0 listed) (record { least = omega arith; most = omega arith })
@@ -75,27 +94,32 @@ module _ {ps : List Place} (range : InRange ps) where
       omega (arith, on-axis (range .in-range i i-listed) axis, on-axis (range .in-range j j-listed) axis)
 
   -- The labels of a choice that is good there meet at no side, whole or fraction.
-  pub free-apart : {cs : List ℕ} → Good freeSide ps cs → (p q : ℕ) → MeetingPair p q ps cs → ⊥
+  pub free-apart : {way : Way} {cs : List ℕ} → Good way freeSide ps cs → (p q : ℕ) → MeetingPair p q ps cs → ⊥
   free-apart good p q pair =
       good .apart (meeting-at pair (λ axis.
       overlap-at (λ x bound below. omega (arith, none-further (pair .first-listed) (pair .second-listed) axis)) (pair .meet axis)))
 
-  -- "If a good choice exists at 20,001, it is good at every side."
-  pub good-at-free : {cs : List ℕ} → Good freeSide ps cs → (h : ℕ) → Good h ps cs
+  -- A corner that is allowed there is so at every side,
+  allowed-at-free : {way : Way} {i c : ℕ} → i < length ps → (h : ℕ) → Allowed way freeSide ps i c → Allowed way h ps i c
+  allowed-at-free listed h (uncrowded none) =
+      uncrowded (λ crowded.
+      none (crowded-at (λ j j-listed covers axis.
+      record { onward = covers axis .onward; near = omega (arith, none-further listed j-listed axis) }) crowded))
+  allowed-at-free listed h (at-most-two low) = at-most-two low
+
+  -- and so, "if a good choice exists at 20,001, it is good at every side".
+  pub good-at-free : {way : Way} {cs : List ℕ} → Good way freeSide ps cs → (h : ℕ) → Good way h ps cs
   good-at-free good h =
       record {
         corners = good .corners;
-        uncrowded = λ i listed crowded.
-            good .uncrowded i listed
-            (crowded-at (λ j j-listed covers axis.
-            record { onward = covers axis .onward; near = omega (arith, none-further listed j-listed axis) }) crowded);
+        allowed = λ i listed. allowed-at-free listed h (good .allowed i listed);
         apart = free-apart good h 1;
       }
 
 -- ---- decided
 
 -- Whether a choice is good is decided, by a test.
-pub good-decided : (h : ℕ) (ps : List Place) (cs : List ℕ) → Decides (goodTest h ps cs) (Good h ps cs)
+pub good-decided : (way : Way) (h : ℕ) (ps : List Place) (cs : List ℕ) → Decides (goodTest way h ps cs) (Good way h ps cs)
 good-decided = good-decides
 
 -- ---- the first
@@ -116,8 +140,8 @@ before-or-equal (c ∷ cs) (e ∷ es) same = go (ℕ-discrete c e) (decLt c e) (
     go (no differ) (no more) rest = let less : e < c = omega arith in inr (inr (lower less))
 
 -- There is at most one first good choice.
-pub first-unique : {h : ℕ} {ps : List Place} {cs es : List ℕ} → First h ps cs → First h ps es → cs ≡ es
-first-unique {h} {ps} {cs} {es} one other =
+pub first-unique : {way : Way} {h : ℕ} {ps : List Place} {cs es : List ℕ} → First way h ps cs → First way h ps es → cs ≡ es
+first-unique {cs = cs} {es = es} one other =
     go (before-or-equal cs es (one .good .corners .one-each ∙ sym (other .good .corners .one-each)))
   where
     go : (cs ≡ es) ⊎ (Before cs es ⊎ Before es cs) → cs ≡ es
@@ -130,9 +154,9 @@ ones-first : (n : ℕ) (es : List ℕ) → ((i : ℕ) → i < n → 1 ≤ corner
 ones-first (suc n) (e ∷ es) corner (lower less) = omega (arith, corner 0 (suc-le-suc zero-le))
 ones-first (suc n) (e ∷ es) corner (later b) = ones-first n es (λ i listed. corner (suc i) (suc-le-suc listed)) b
 
--- Up to side 1 every choice is good, and corner 1 everywhere is the first.
-pub first-at-one : {h : ℕ} {ps : List Place} → h ≤ 1 → Distinct ps → First h ps (replicate (length ps) 1)
-first-at-one {h} {ps} small distinct =
+-- Up to side 1 corner 1 everywhere is good, and the first.
+pub first-at-one : {way : Way} {h : ℕ} {ps : List Place} → h ≤ 1 → Distinct ps → First way h ps (replicate (length ps) 1)
+first-at-one {ps = ps} small distinct =
     record {
       good = good-smaller small (good-one-exists distinct);
       none-before = λ es good. ones-first (length ps) es (λ i listed. good .corners .corner i listed .least);

@@ -14,7 +14,7 @@ use Rattle.placing.specs.rules.Units.{Axis, X, Y, along, inHalfUnits, di
 use Rattle.placing.specs.rules.Corner.{toward, opposite}
 use Rattle.placing.specs.rules.Label.{Onward, upward, downward, Fraction, Point, moved, AtSite, Inside, Covers, square, edge, pointOf}
 use Rattle.placing.specs.rules.Label.{Overlap, same-way, facing, Meet}
-use Rattle.placing.specs.deciding.Tests.{both, place-equal, ways}
+use Rattle.placing.specs.deciding.Tests.{both, place-equal, same-or-opposite}
 use Rattle.placing.specs.theorems.Corner.{opposite-back}
 use Rattle.placing.specs.theorems.Label.{onward-as, onward-same, onward-turned, onward-either, onward-through, covers-along}
 
@@ -150,7 +150,7 @@ module _ {p q : ℕ} (some-p : 1 ≤ p) where
 
   -- Labels within which one fraction lies overlap.
   pub within-overlap : {d e : Direction} {a b : ℕ} {t : Fraction} → Within p q d a t → Within p q e b t → Overlap p q d a e b
-  within-overlap {d} {e} {a} {b} {t} of-one of-other = go (ways d e)
+  within-overlap {d} {e} {a} {b} {t} of-one of-other = go (same-or-opposite d e)
     where
       go : (d ≡ e) ⊎ (opposite d ≡ e) → Overlap p q d a e b
       go (inl same) =

@@ -17,7 +17,7 @@ walk-requires c κs =
       held = may .held;
       sizes = at-fresh .fresh-state .ensures .sizes;
       room = may .room;
-      walked = walk-starts (at-fresh .fresh-state .ensures .fresh _ _ (may .inside) (may .reaches));
+      walked = walk-starts (at-fresh .fresh-state .ensures .fresh _ _ _ (may .least) (may .inside) (may .reaches));
     }
 
 same-length : tie.Need-same-length
@@ -27,7 +27,7 @@ returns : tie.Need-returns
 returns c =
     let at-walk = c .before .before in
     let at-start = at-walk .before .before .before .before .before .before .before .before in (
-      walked-choice _ _ _ _ _ _ _ (at-start .pre .held .few) (at-walk .walk .ensures .0),
+      walked-choice _ _ _ _ _ _ _ _ (at-start .pre .held .few) (at-walk .walk .ensures .0),
       at-walk .walk .ensures .1,
     )
 

@@ -7,19 +7,19 @@ use borrow.Author.Needs.{needs}
 use Rattle.placing.specs.search.Walk.{walk-decided-add-one}
 use Rattle.placing.specs.code.Asks.{MayDecide}
 use Rattle.placing.specs.code.Labels.{labels}
-use Rattle.placing.specs.code.Ways.{Kept, up-to-more}
+use Rattle.placing.specs.code.Steps.{Kept, up-to-more}
 use Rattle.placing.specs.code.Marks.{kept-same, kept-twice}
 use Rattle.placing.specs.code.Walking.{RefusedUpTo, refused-none, takes-corner, takes-none, walked-to}
 use Rattle.placing.proofs.choice.choose_corner.Statement.{statement}
 use Rattle.placing.proofs.choice.choose_corner.Tie as tie
 
 abbrev Inv-loop : tie.InvT-loop
-Inv-loop xs ys n side ways₀ decided₀ marks₀ i e₀ ways decided marks e =
-    (e ≤ 4) × Kept n marks₀ marks × MayDecide n xs ys side ways decided marks i
-    × RefusedUpTo (labels (side .0) n xs ys) ways i e
+Inv-loop xs ys n way side opens₀ decided₀ marks₀ i e₀ opens decided marks e =
+    (e ≤ 4) × Kept n marks₀ marks × MayDecide n xs ys way side opens decided marks i
+    × RefusedUpTo (labels way (side .0) n xs ys) opens i e
 
 abbrev μ-loop : tie.MeasureT-loop
-μ-loop xs ys n side ways₀ decided₀ marks₀ i e₀ ways decided marks e = 4 - e
+μ-loop xs ys n way side opens₀ decided₀ marks₀ i e₀ opens decided marks e = 4 - e
 
 element-copy-out-if1 : tie.Need-element-copy-out-if1 Inv-loop μ-loop
 element-copy-out-if1 c = search needs
@@ -77,12 +77,12 @@ loop-again c =
           held = may .walking .held;
           sizes = tried .sizes;
           room = rw (kept .size) (may .walking .room);
-          walked = rw (tried .ways-back failed, tried .decided-back failed) (may .walking .walked);
+          walked = rw (tried .opens-back failed, tried .decided-back failed) (may .walking .walked);
         };
         listed = may .listed;
         undecided = rw (tried .decided-back failed) (may .undecided);
       },
-      rw (tried .ways-back failed) (up-to-more _ (at-loop .loop .e) (so-far .3) (tried .refused failed)),
+      rw (tried .opens-back failed) (up-to-more _ (at-loop .loop .e) (so-far .3) (tried .refused failed)),
     )
 
 same-length-2 : tie.Need-same-length-2 Inv-loop μ-loop

@@ -33,12 +33,12 @@ returns c =
     let start = tested .before .before .before in
     let may = start .pre in
     let small = tested .before .at-most .ensures .yes-holds (tested .if1 .taken) in
-    let found = ones-found (start .args .side .0) (sites-of start) small (may .distinct) (length-sites _ _ _) (may .held .few)
+    let found = ones-found (start .args .way) (start .args .side .0) (sites-of start) small (may .distinct) (length-sites _ _ _) (may .held .few)
     (c .first-corners .ensures) in
     (found, kept-same)
 
-crowding-of-requires : tie.Need-crowding-of-requires
-crowding-of-requires c κs = search needs
+reaches-of-requires : tie.Need-reaches-of-requires
+reaches-of-requires c κs = search needs
 
 below-requires : tie.Need-below-requires
 below-requires c κs = search needs
@@ -48,17 +48,19 @@ returns-2 c =
     let at-crowding = c .before .before in
     let start = at-crowding .before .before .before .before in
     let below = c .before .below .ensures .yes-holds (c .if2 .taken) in
-    let none = at-crowding .crowding-of .ensures .none-above .none-good (start .args .side .0) (omega arith) (omega arith) in
-    (no-choice (start .args .side .0) (sites-of start) none, kept-same)
+    let none = at-crowding .reaches-of .ensures .none-above .none-good (start .args .side .0) (omega arith) (omega arith) in
+    (no-choice (start .args .way) (start .args .side .0) (sites-of start) none, kept-same)
 
 choose-requires : tie.Need-choose-requires
 choose-requires c κs =
     let at-crowding = c .before .before .before in
-    let start = at-crowding .before .before .before .before in
+    let above-one = at-crowding .before in
+    let start = above-one .before .before .before in
     record {
       held = start .pre .held;
       room = start .pre .room;
-      reaches = at-crowding .crowding-of .ensures .reaches;
+      reaches = at-crowding .reaches-of .ensures .reaches;
+      least = let large = above-one .before .at-most .ensures .no-fails (above-one .if1 .left) in omega arith;
       inside = let inside = c .before .before .below .ensures .no-fails (c .before .if2 .left) in omega arith;
     }
 
@@ -71,7 +73,7 @@ returns-3 c =
     let start = at-choose .before .before .before .before .before .before .before .before in
     let failed = not-true (at-choose .choose .result .ok) (c .if3 .taken) in
     let first = sym (at-choose .choose .ensures .0) ∙ ap (λ (b : Bool). whereYes b (take (start .args .n) (at-choose .choose .result .corners))) failed in
-    (no-choice (start .args .side .0) (sites-of start) (firstGood-none first), at-choose .choose .ensures .1)
+    (no-choice (start .args .way) (start .args .side .0) (sites-of start) (firstGood-none first), at-choose .choose .ensures .1)
 
 first-corners-requires-2 : tie.Need-first-corners-requires-2
 first-corners-requires-2 c κs = search needs
@@ -84,7 +86,7 @@ returns-4 c =
     let at-test = c .before .before in
     let at-choose = at-test .before .before .before .before in
     let start = at-choose .before .before .before .before .before .before .before .before in
-    let found = choice-found (start .args .side .0) (sites-of start) (at-choose .choose .result) (length-sites _ _ _) (at-choose .choose .ensures .0)
+    let found = choice-found (start .args .way) (start .args .side .0) (sites-of start) (at-choose .choose .result) (length-sites _ _ _) (at-choose .choose .ensures .0)
     (not-false (at-choose .choose .result .ok) (at-test .if3 .left)) (c .first-corners2 .ensures) in
     (found, at-choose .choose .ensures .1)
 
@@ -95,7 +97,7 @@ first-choice-spec =
     at-most-requires
     first-corners-requires
     returns
-    crowding-of-requires
+    reaches-of-requires
     below-requires
     returns-2
     choose-requires

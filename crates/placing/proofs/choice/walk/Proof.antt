@@ -6,18 +6,18 @@ use native.Mathlib.Omega.{arith}
 use borrow.Author.Needs.{needs}
 use borrow.Author.Tests.{not-true, not-false}
 use Rattle.placing.specs.code.Asks.{MayWalk}
-use Rattle.placing.specs.code.Ways.{Kept}
+use Rattle.placing.specs.code.Steps.{Kept}
 use Rattle.placing.specs.code.Marks.{kept-same, kept-twice}
 use Rattle.placing.specs.code.Walking.{walk-over, walked-to}
 use Rattle.placing.proofs.choice.walk.Statement.{statement}
 use Rattle.placing.proofs.choice.walk.Tie as tie
 
 abbrev Inv-loop : tie.InvT-loop
-Inv-loop xs ys n side ways₀ decided₀ marks₀ i₀ ways decided marks i =
-    (i ≤ n) × Kept n marks₀ marks × MayWalk n xs ys side ways decided marks i
+Inv-loop xs ys n way side opens₀ decided₀ marks₀ i₀ opens decided marks i =
+    (i ≤ n) × Kept n marks₀ marks × MayWalk n xs ys way side opens decided marks i
 
 abbrev μ-loop : tie.MeasureT-loop
-μ-loop xs ys n side ways₀ decided₀ marks₀ i₀ ways decided marks i = n - i
+μ-loop xs ys n way side opens₀ decided₀ marks₀ i₀ opens decided marks i = n - i
 
 loop-holds : tie.Need-loop-holds Inv-loop μ-loop
 loop-holds c = (search needs, kept-same, c .before .pre)

@@ -10,10 +10,10 @@ use Rattle.placing.proofs.fresh.fresh_state.Statement.{statement}
 use Rattle.placing.proofs.fresh.fresh_state.Tie as tie
 
 abbrev Inv-loop : tie.InvT-loop
-Inv-loop n side crowding ways₀ at₀ at-end ways at = (at ≤ 4 * n) × OpenedBelow crowding (side .0) at ways
+Inv-loop n side crowding opens₀ at₀ at-end opens at = (at ≤ 4 * n) × OpenedBelow crowding (side .0) at opens
 
 abbrev μ-loop : tie.MeasureT-loop
-μ-loop n side crowding ways₀ at₀ at-end ways at = 4 * n - at
+μ-loop n side crowding opens₀ at₀ at-end opens at = 4 * n - at
 
 mul-at-end : tie.Need-mul-at-end Inv-loop μ-loop
 mul-at-end c = search needs
@@ -30,8 +30,8 @@ element-copy-out-t14 c = search needs
 is-open-requires : tie.Need-is-open-requires Inv-loop μ-loop
 is-open-requires c κs = search needs
 
-array-write-ways : tie.Need-array-write-ways Inv-loop μ-loop
-array-write-ways c = search needs
+array-write-opens : tie.Need-array-write-opens Inv-loop μ-loop
+array-write-opens c = search needs
 
 add-at : tie.Need-add-at Inv-loop μ-loop
 add-at c = omega arith
@@ -62,7 +62,7 @@ fresh-state-spec =
     mul-t11
     element-copy-out-t14
     is-open-requires
-    array-write-ways
+    array-write-opens
     add-at
     loop-less
     loop-again

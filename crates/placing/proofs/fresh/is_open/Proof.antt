@@ -15,13 +15,13 @@ at-most-requires c κs = search needs
 returns : tie.Need-returns
 returns c =
     let within = c .before .at-most .ensures .yes-holds (c .if1 .taken) in
-    record { opens = λ inside. refl; uncrowded = λ one. omega arith }
+    record { opens = λ inside. refl; within = λ one. omega arith }
 
 returns-2 : tie.Need-returns-2
 returns-2 c =
     record {
       opens = λ inside. absurd (c .before .at-most .ensures .no-fails (c .if1 .left) (omega arith));
-      uncrowded = λ zero. omega arith;
+      within = λ zero. omega arith;
     }
 
 pub is-open-spec : {M : Type 1} → statement M

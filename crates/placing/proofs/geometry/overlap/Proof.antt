@@ -6,14 +6,14 @@ use Rattle.placing.specs.declared.corner.Direction.{Direction}
 use Rattle.placing.specs.rules.Corner.{opposite}
 use native.Mathlib.Omega.{arith}
 use Rattle.placing.specs.deciding.Decides.{decides-same, decides-second, decides-no}
-use Rattle.placing.specs.deciding.Tests.{ways, same-way-decides, facing-decides}
+use Rattle.placing.specs.deciding.Tests.{same-or-opposite, same-way-decides, facing-decides}
 use borrow.Author.Needs.{needs}
 use Rattle.placing.proofs.geometry.overlap.Statement.{statement}
 use Rattle.placing.proofs.geometry.overlap.Tie as tie
 
 -- directions that are not the same are opposite
 against : {d e : Direction} → (d ≡ e → ⊥) → opposite d ≡ e
-against {d} {e} differ = ⊎-elim (λ same. absurd (differ same)) (λ opposed. opposed) (ways d e)
+against {d} {e} differ = ⊎-elim (λ same. absurd (differ same)) (λ opposed. opposed) (same-or-opposite d e)
 
 same-direction-requires : tie.Need-same-direction-requires
 same-direction-requires c κs = search needs

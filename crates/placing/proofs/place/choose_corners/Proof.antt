@@ -46,7 +46,7 @@ returns c =
     let n = start .args .n in
     let wide : 1 * n ≤ n * n = mul-le-mul-right n (start .pre .0 .some-sites) in (
       at-choice .first-choice .ensures .0
-          ∙ ap₂ (λ (h : ℕ) (l : List Place). choiceAs (firstGood h l)) (at-judged .judged-at .ensures)
+          ∙ ap₂ (λ (h : ℕ) (l : List Place). choiceAs (firstGood (start .args .way) h l)) (at-judged .judged-at .ensures)
           (at-coordinates .coordinates-of .ensures .same-sites),
       at-clear .clear .ensures
           ∙ ap (λ (l : List ℕ). replicate (n * n) 0 ++ l) (kept-further (n * n) (omega arith) (at-choice .first-choice .ensures .1)),

@@ -42,7 +42,7 @@ returns c =
     let wide : 1 * n ≤ n * n = mul-le-mul-right n (at-start .pre .some-sites) in
     let side =
     at-find .greatest-side .ensures .0
-    ∙ ap (λ (l : List Place). answerOf l .side) (at-start-coordinates .coordinates-of .ensures .same-sites) in (
+    ∙ ap (λ (l : List Place). answerOf (at-start .args .way) l .side) (at-start-coordinates .coordinates-of .ensures .same-sites) in (
       side,
       (
         at-clear .clear .ensures

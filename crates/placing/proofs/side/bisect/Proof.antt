@@ -5,21 +5,21 @@ use Prim.Native.Nat.{_-_}
 use native.Mathlib.Omega.{arith}
 use borrow.Author.Needs.{needs}
 use Rattle.placing.specs.code.Sites.{sitesOf}
-use Rattle.placing.specs.code.Ways.{Kept}
+use Rattle.placing.specs.code.Steps.{Kept}
 use Rattle.placing.specs.code.Marks.{kept-same, kept-twice}
 use Rattle.placing.specs.code.Bisect.{BetweenIs, between-starts, between-ends}
 use Rattle.placing.proofs.side.bisect.Statement.{statement}
 use Rattle.placing.proofs.side.bisect.Tie as tie
 
 abbrev Inv-loop : tie.InvT-loop
-Inv-loop xs ys n crowding marks₀ between₀ marks between =
-    Kept n marks₀ marks × BetweenIs (sitesOf n xs ys) (crowding .top .0) between
+Inv-loop xs ys n way crowding marks₀ between₀ marks between =
+    Kept n marks₀ marks × BetweenIs way (sitesOf n xs ys) (crowding .top .0) between
 
 abbrev μ-loop : tie.MeasureT-loop
-μ-loop xs ys n crowding marks₀ between₀ marks between = between .high .0 - between .low .0
+μ-loop xs ys n way crowding marks₀ between₀ marks between = between .high .0 - between .low .0
 
-add-t9 : tie.Need-add-t9 Inv-loop μ-loop
-add-t9 c = search needs
+add-t10 : tie.Need-add-t10 Inv-loop μ-loop
+add-t10 c = search needs
 
 loop-holds : tie.Need-loop-holds Inv-loop μ-loop
 loop-holds c =
@@ -73,7 +73,7 @@ bisect-spec =
     (tie.spec
     Inv-loop
     μ-loop
-    add-t9
+    add-t10
     loop-holds
     below-requires
     narrow-requires

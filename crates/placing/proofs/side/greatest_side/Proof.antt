@@ -4,13 +4,13 @@ use borrow.Author.Needs.{needs}
 use Rattle.placing.proofs.side.greatest_side.Statement.{statement}
 use Rattle.placing.proofs.side.greatest_side.Tie as tie
 
-crowding-of-requires : tie.Need-crowding-of-requires
-crowding-of-requires c κs = search needs
+reaches-of-requires : tie.Need-reaches-of-requires
+reaches-of-requires c κs = search needs
 
 bisect-requires : tie.Need-bisect-requires
 bisect-requires c κs =
     let may = c .before .before .before .pre in
-    record { held = may .held; distinct = may .distinct; room = may .room; crowding-is = c .before .crowding-of .ensures }
+    record { held = may .held; distinct = may .distinct; room = may .room; crowding-is = c .before .reaches-of .ensures }
 
 same-length : tie.Need-same-length
 same-length c = search needs
@@ -19,4 +19,4 @@ returns : tie.Need-returns
 returns c = search needs
 
 pub greatest-side-spec : {M : Type 1} → statement M
-greatest-side-spec = tie.close (tie.spec crowding-of-requires bisect-requires same-length returns)
+greatest-side-spec = tie.close (tie.spec reaches-of-requires bisect-requires same-length returns)

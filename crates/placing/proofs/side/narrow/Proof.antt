@@ -20,6 +20,7 @@ choose-requires c κs =
       held = held-at _ (le-trans inside (may .crowding-is .judged)) (may .held);
       room = may .room;
       reaches = may .crowding-is .reaches;
+      least = omega (arith, may .between-is .least, may .left);
       inside = inside;
     }
 

@@ -5,18 +5,18 @@ use native.Mathlib.Nat.{lt-of-lt-of-le}
 use native.Mathlib.Omega.{arith}
 use borrow.Author.Tests.{not-true, not-false}
 use Rattle.placing.specs.code.Labels.{labels}
-use Rattle.placing.specs.code.Ways.{Waits}
+use Rattle.placing.specs.code.Steps.{Waits}
 use Rattle.placing.specs.code.Marks.{unmarkedBelow, mark-fewer, kept-set}
 use Rattle.placing.specs.code.CarryOn.{CarryingOn, carrying-starts, carrying-ends, carrying-on, carrying-stuck, none-below, may-carry-out}
 use Rattle.placing.proofs.trial.carry_on.Statement.{statement}
 use Rattle.placing.proofs.trial.carry_on.Tie as tie
 
 abbrev Inv-loop : tie.InvT-loop
-Inv-loop xs ys n side ways₀ decided₀ marks₀ from ways decided marks =
-    CarryingOn (labels (side .0) n xs ys) from ways₀ decided₀ marks₀ ways decided marks
+Inv-loop xs ys n way side opens₀ decided₀ marks₀ from opens decided marks =
+    CarryingOn (labels way (side .0) n xs ys) from opens₀ decided₀ marks₀ opens decided marks
 
 abbrev μ-loop : tie.MeasureT-loop
-μ-loop xs ys n side ways₀ decided₀ marks₀ from ways decided marks = unmarkedBelow n marks
+μ-loop xs ys n way side opens₀ decided₀ marks₀ from opens decided marks = unmarkedBelow n marks
 
 loop-holds : tie.Need-loop-holds Inv-loop μ-loop
 loop-holds c = carrying-starts (c .before .pre)

@@ -1,64 +1,64 @@
--- `trial::carry_out` meets its contract. The loop's invariant: the decision of `k` was carried to the other sites below `j`, and the
--- rest is as at entry. The measure is the number of sites left. Assumes nothing.
-use Prim.Native.Nat.{_≤_, _-_}
-use native.Mathlib.Omega.{arith}
+-- `trial::carry_out` meets its contract: by the usual way one round carries the decision out, above two do.
+-- Assumes nothing.
+use borrow.Author.Needs.{needs}
 use borrow.Author.Tests.{not-true, not-false}
-use Rattle.placing.specs.code.Labels.{labels}
-use Rattle.placing.specs.code.Carry.{CarriedBelow, carried-start, carried-more, carried-all, carried-stuck, may-carry-to}
+use Rattle.placing.specs.code.CarryTwice.{carried-usual, carried-above, carried-stuck-at, may-carry-again}
 use Rattle.placing.proofs.trial.carry_out.Statement.{statement}
 use Rattle.placing.proofs.trial.carry_out.Tie as tie
 
-abbrev Inv-loop : tie.InvT-loop
-Inv-loop xs ys n side ways₀ decided₀ k from c j₀ ways decided j =
-    (j ≤ n) × CarriedBelow (labels (side .0) n xs ys) ways₀ decided₀ k j ways decided
+element-copy-out-c : tie.Need-element-copy-out-c
+element-copy-out-c c = search needs
 
-abbrev μ-loop : tie.MeasureT-loop
-μ-loop xs ys n side ways₀ decided₀ k from c j₀ ways decided j = n - j
+enum-told : tie.Need-enum-told
+enum-told c = search needs
 
-element-copy-out-c : tie.Need-element-copy-out-c Inv-loop μ-loop
-element-copy-out-c c = omega arith
+carry-corner-requires : tie.Need-carry-corner-requires
+carry-corner-requires c κs = search needs
 
-loop-holds : tie.Need-loop-holds Inv-loop μ-loop
-loop-holds c = (c .before .pre .inside, carried-start (c .before .pre))
+enum-told-2 : tie.Need-enum-told-2
+enum-told-2 c = search needs
 
-carry-to-requires : tie.Need-carry-to-requires Inv-loop μ-loop
-carry-to-requires c κs =
-    let turn = c .before .before in
-    may-carry-to (turn .before .before .before .pre) (turn .before .loop .inv .1) (turn .loop-test .taken)
+carry-corner-requires-2 : tie.Need-carry-corner-requires-2
+carry-corner-requires-2 c κs = search needs
 
-returns : tie.Need-returns Inv-loop μ-loop
+returns : tie.Need-returns
 returns c =
-    let turn = c .before .before .before .before in
-    carried-stuck (turn .before .loop .inv .1) (c .before .carry-to .ensures (turn .before .before .before .args .n))
-    (turn .loop-test .taken) (not-true _ (c .if1 .taken))
+    let failed = c .before in
+    carried-stuck-at (not-true _ (c .if1 .taken)) (failed .carry-corner2 .ensures _)
 
-add-j : tie.Need-add-j Inv-loop μ-loop
-add-j c = omega arith
+carry-corner-requires-3 : tie.Need-carry-corner-requires-3
+carry-corner-requires-3 c κs =
+    let first = c .before .before .before in
+    let start = first .before .before .before .before .before .before in
+    record {
+      carrying = may-carry-again (start .pre .carrying) (first .carry-corner2 .ensures (start .args .way)) (not-false _ (c .before .before .if1 .left));
+      corner = search needs;
+    }
 
-loop-less : tie.Need-loop-less Inv-loop μ-loop
-loop-less c = omega arith
+returns-2 : tie.Need-returns-2
+returns-2 c =
+    let told = c .before .before .before in
+    let start = told .before .before .before in
+    carried-usual (start .pre) (told .enum-told .given .1) (c .carry-corner .ensures _)
 
-loop-again : tie.Need-loop-again Inv-loop μ-loop
-loop-again c =
-    let head = c .before .before .before .before .before in (
-      omega arith,
-      carried-more (head .loop .inv .1) (c .before .carry-to .ensures (head .before .before .args .n)) (not-false _ (c .if1 .left)),
-    )
-
-returns-2 : tie.Need-returns-2 Inv-loop μ-loop
-returns-2 c = carried-all (c .before .loop .inv .1) (c .loop-test .left)
+returns-3 : tie.Need-returns-3
+returns-3 c =
+    let tested = c .before .before .before in
+    let first = tested .before in
+    let start = first .before .before .before .before .before .before in
+    carried-above (start .pre) (first .before .before .before .enum-told2 .given .1) (first .carry-corner2 .ensures _) (not-false _ (tested .if1 .left))
+    (c .carry-corner3 .ensures _)
 
 pub carry-out-spec : {M : Type 1} → statement M
 carry-out-spec =
     tie.close
     (tie.spec
-    Inv-loop
-    μ-loop
     element-copy-out-c
-    loop-holds
-    carry-to-requires
+    enum-told
+    carry-corner-requires
+    enum-told-2
+    carry-corner-requires-2
     returns
-    add-j
-    loop-less
-    loop-again
-    returns-2)
+    carry-corner-requires-3
+    returns-2
+    returns-3)

@@ -5,11 +5,11 @@ use borrow.Author.Needs.{needs}
 use Rattle.placing.proofs.trial.close_corner.Statement.{statement}
 use Rattle.placing.proofs.trial.close_corner.Tie as tie
 
-way-of-requires : tie.Need-way-of-requires
-way-of-requires c κs = search needs
+index-of-requires : tie.Need-index-of-requires
+index-of-requires c κs = search needs
 
-element-write-ways : tie.Need-element-write-ways
-element-write-ways c = search needs
+element-write-opens : tie.Need-element-write-opens
+element-write-opens c = search needs
 
 left-of-requires : tie.Need-left-of-requires
 left-of-requires c κs = search needs
@@ -31,34 +31,34 @@ returns c =
     let left = c .before .before in
     let place = left .before .before in
     let start = place .before in
-    rw (place .way-of .ensures)
+    rw (place .index-of .ensures)
     (closed-none _ _ _ _ (start .pre .0) (start .pre .1) (start .pre .2)
-    (rw (c .enum-told .given .1, place .way-of .ensures) at (left .left-of .ensures)))
+    (rw (c .enum-told .given .1, place .index-of .ensures) at (left .left-of .ensures)))
 
 returns-2 : tie.Need-returns-2
 returns-2 c =
     let left = c .before .before .before in
     let place = left .before .before in
     let start = place .before in
-    rw (place .way-of .ensures)
+    rw (place .index-of .ensures)
     (closed-lone _ _ _ _ (start .pre .0) (start .pre .1) (start .pre .2) _
-    (rw (c .before .left .given .1, place .way-of .ensures) at (left .left-of .ensures)))
+    (rw (c .before .left .given .1, place .index-of .ensures) at (left .left-of .ensures)))
 
 returns-3 : tie.Need-returns-3
 returns-3 c =
     let left = c .before .before in
     let place = left .before .before in
     let start = place .before in
-    rw (place .way-of .ensures)
+    rw (place .index-of .ensures)
     (closed-some _ _ _ _ (start .pre .0) (start .pre .1) (start .pre .2)
-    (rw (c .enum-told2 .given .1, place .way-of .ensures) at (left .left-of .ensures)))
+    (rw (c .enum-told2 .given .1, place .index-of .ensures) at (left .left-of .ensures)))
 
 pub close-corner-spec : {M : Type 1} → statement M
 close-corner-spec =
     tie.close
     (tie.spec
-    way-of-requires
-    element-write-ways
+    index-of-requires
+    element-write-opens
     left-of-requires
     enum-told
     enum-known-left

@@ -4,7 +4,7 @@ use Prim.Native.Nat.{ℕ, _≤_, _<_, _-_}
 use native.Mathlib.Omega.{arith}
 use borrow.Author.Needs.{needs}
 use borrow.Author.Count.{below-more}
-use Rattle.placing.specs.code.Ways.{Waits}
+use Rattle.placing.specs.code.Steps.{Waits}
 use Rattle.placing.proofs.trial.first_waiting.Statement.{statement}
 use Rattle.placing.proofs.trial.first_waiting.Tie as tie
 

@@ -6,15 +6,15 @@ use native.Mathlib.Omega.{arith}
 use borrow.Author.Needs.{needs}
 use Prim.Native.Nat.{_≤_, _-_}
 use Rattle.placing.specs.search.Rows.{rowOf, row-next}
-use Rattle.placing.specs.code.Ways.{LeftUpTo, left-none, left-open, left-shut, left-all}
+use Rattle.placing.specs.code.Steps.{LeftUpTo, left-none, left-open, left-shut, left-all}
 use Rattle.placing.proofs.trial.left_of.Statement.{statement}
 use Rattle.placing.proofs.trial.left_of.Tie as tie
 
 abbrev Inv-loop : tie.InvT-loop
-Inv-loop ways j left₀ e₀ left e = (e ≤ 4) × LeftUpTo (rowOf ways j) e left
+Inv-loop opens j left₀ e₀ left e = (e ≤ 4) × LeftUpTo (rowOf opens j) e left
 
 abbrev μ-loop : tie.MeasureT-loop
-μ-loop ways j left₀ e₀ left e = 4 - e
+μ-loop opens j left₀ e₀ left e = 4 - e
 
 loop-holds : tie.Need-loop-holds Inv-loop μ-loop
 loop-holds c = (omega arith, left-none _ _)
@@ -48,7 +48,7 @@ loop-again c =
     let tested = c .before in
     let at-loop = tested .before .before in
     let asked = at-loop .before .args in
-    let byte = row-next (asked .ways .now) (asked .j) (at-loop .loop .e) (omega arith) in (
+    let byte = row-next (asked .opens .now) (asked .j) (at-loop .loop .e) (omega arith) in (
       omega arith,
       ⊎-elim (λ came. rw (came .2 ∙ came .1 .ensures) (left-open (at-loop .loop .inv .1) (byte ∙ came .0 .taken)))
           (λ came. rw (came .1) (left-shut (at-loop .loop .inv .1) (λ is-open. came .0 .left (sym byte ∙ is-open)))) (c .if1 .came),

@@ -5,7 +5,7 @@ use Prim.Native.Nat.{_≤_, _-_}
 use native.Mathlib.Omega.{arith}
 use borrow.Author.Needs.{needs}
 use Rattle.placing.specs.code.Filled.{filled-none, filled-next}
-use Rattle.placing.specs.code.Ways.{Kept}
+use Rattle.placing.specs.code.Steps.{Kept}
 use Rattle.placing.specs.code.Marks.{MarkedBelow, marked-all, kept-same, kept-set}
 use Rattle.placing.proofs.trial.mark.Statement.{statement}
 use Rattle.placing.proofs.trial.mark.Tie as tie

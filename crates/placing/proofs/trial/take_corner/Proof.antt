@@ -10,22 +10,22 @@ use Rattle.placing.proofs.trial.take_corner.Statement.{statement}
 use Rattle.placing.proofs.trial.take_corner.Tie as tie
 
 abbrev Inv-loop : tie.InvT-loop
-Inv-loop ways₀ decided i c e₀ ways e = (e ≤ 4) × Cleared i e ways₀ ways
+Inv-loop opens₀ decided i c e₀ opens e = (e ≤ 4) × Cleared i e opens₀ opens
 
 abbrev μ-loop : tie.MeasureT-loop
-μ-loop ways₀ decided i c e₀ ways e = 4 - e
+μ-loop opens₀ decided i c e₀ opens e = 4 - e
 
 loop-holds : tie.Need-loop-holds Inv-loop μ-loop
 loop-holds c = (omega arith, filled-none)
 
-mul-ways : tie.Need-mul-ways Inv-loop μ-loop
-mul-ways c = search needs
+mul-opens : tie.Need-mul-opens Inv-loop μ-loop
+mul-opens c = search needs
 
-add-ways : tie.Need-add-ways Inv-loop μ-loop
-add-ways c = search needs
+add-opens : tie.Need-add-opens Inv-loop μ-loop
+add-opens c = search needs
 
-element-write-ways : tie.Need-element-write-ways Inv-loop μ-loop
-element-write-ways c = search needs
+element-write-opens : tie.Need-element-write-opens Inv-loop μ-loop
+element-write-opens c = search needs
 
 add-e : tie.Need-add-e Inv-loop μ-loop
 add-e c = omega arith
@@ -38,11 +38,11 @@ loop-again c =
     let at-loop = c .before in
     (omega arith, filled-more (at-loop .loop .inv .1) (omega arith) refl)
 
-way-of-requires : tie.Need-way-of-requires Inv-loop μ-loop
-way-of-requires c κs = search needs
+index-of-requires : tie.Need-index-of-requires Inv-loop μ-loop
+index-of-requires c κs = search needs
 
-element-write-ways-2 : tie.Need-element-write-ways-2 Inv-loop μ-loop
-element-write-ways-2 c = search needs
+element-write-opens-2 : tie.Need-element-write-opens-2 Inv-loop μ-loop
+element-write-opens-2 c = search needs
 
 element-write-decided : tie.Need-element-write-decided Inv-loop μ-loop
 element-write-decided c = search needs
@@ -52,7 +52,7 @@ returns c =
     let at-loop = c .before .before in
     let start = at-loop .before in
     let end : at-loop .loop .e ≡ 4 = omega arith in
-    rw (c .way-of .ensures) (taken-corner (start .pre .0) (start .pre .1) (start .pre .2) (rw end at (at-loop .loop .inv .1)))
+    rw (c .index-of .ensures) (taken-corner (start .pre .0) (start .pre .1) (start .pre .2) (rw end at (at-loop .loop .inv .1)))
 
 pub take-corner-spec : {M : Type 1} → statement M
 take-corner-spec =
@@ -61,13 +61,13 @@ take-corner-spec =
     Inv-loop
     μ-loop
     loop-holds
-    mul-ways
-    add-ways
-    element-write-ways
+    mul-opens
+    add-opens
+    element-write-opens
     add-e
     loop-less
     loop-again
-    way-of-requires
-    element-write-ways-2
+    index-of-requires
+    element-write-opens-2
     element-write-decided
     returns)

@@ -9,9 +9,12 @@ use Prim.Native.Nat.{ℕ, zero, suc, _+_, _*_, _≤_, _<_}
 use native.Mathlib.Decide.{decLe}
 use native.Mathlib.Omega.{arith}
 use lib.ListN.{length, getD, drop}
+use Rattle.placing.specs.declared.geometry.Label.{Label}
 use Rattle.placing.specs.declared.trial.Left.{Left}
 use Rattle.placing.specs.declared.trial.Left.the-variants.{Nothing, One, More}
+use Rattle.placing.specs.declared.units.Place.{Place}
 use Rattle.placing.specs.rules.Units.{mostSites}
+use Rattle.placing.specs.rules.Corner.{directionsOf}
 use Rattle.placing.specs.rules.Label.{Meet}
 use Rattle.placing.specs.rules.Choice.{cornerAt}
 use Rattle.placing.specs.search.Problem.{Problem, Solution}
@@ -20,8 +23,8 @@ use Rattle.placing.specs.search.State.{SomeOpen, CarriedTo, Carried, Stu
 use Rattle.placing.specs.code.Sites.{siteIn}
 
 -- A byte for each corner of each site, and one for each site.
-pub record Sizes (ways decided : List ℕ) : Type 0 where
-  pub ways-size : length ways ≡ 4 * mostSites
+pub record Sizes (opens decided : List ℕ) : Type 0 where
+  pub opens-size : length opens ≡ 4 * mostSites
   pub decided-size : length decided ≡ mostSites
 
 -- Corner c alone is open, by the bytes of a row.
@@ -60,9 +63,9 @@ up-to-more Q e before next k inside = from (decLe k e)
     from (no above) = let last : k ≡ e + 1 = omega arith in rw last next
 
 -- It starts with nothing: there is no corner 0.
-pub left-none : (ways : List ℕ) (j : ℕ) → LeftUpTo (rowOf ways j) 0 Nothing
-left-none ways j =
-    nothing (λ k none is-open. let zeroth : k ≡ 0 = omega arith in omega (arith, row-zero ways j, rw zeroth at is-open))
+pub left-none : (opens : List ℕ) (j : ℕ) → LeftUpTo (rowOf opens j) 0 Nothing
+left-none opens j =
+    nothing (λ k none is-open. let zeroth : k ≡ 0 = omega arith in omega (arith, row-zero opens j, rw zeroth at is-open))
 
 -- An open corner makes one more,
 pub left-open : {row : ℕ → ℕ} {e : ℕ} {left : Left} → LeftUpTo row e left → row (e + 1) ≡ 1 → LeftUpTo row (e + 1) (oneMore left (e + 1))
@@ -80,59 +83,63 @@ left-shut {row} {e} (one {c} inside was-open alone) shut =
 left-shut (more some) shut = more some
 
 -- Up to 4 all corners are counted.
-pub left-all : (ways : List ℕ) (j : ℕ) {left : Left} → LeftUpTo (rowOf ways j) 4 left → LeftIs left (rowOf ways j)
-left-all ways j (nothing none) = record { none-open = λ e o. none e (open-corner ways j e o .most) o }
-left-all ways j (one inside is-open alone) = record { is-open = is-open; alone = λ e o. alone e (open-corner ways j e o .most) o }
-left-all ways j (more some) = some
+pub left-all : (opens : List ℕ) (j : ℕ) {left : Left} → LeftUpTo (rowOf opens j) 4 left → LeftIs left (rowOf opens j)
+left-all opens j (nothing none) = record { none-open = λ e o. none e (open-corner opens j e o .most) o }
+left-all opens j (one inside is-open alone) = record { is-open = is-open; alone = λ e o. alone e (open-corner opens j e o .most) o }
+left-all opens j (more some) = some
 
 -- Corner c of site i was taken: it alone is open, and decided.
-pub record TakenCorner (ways decided : List ℕ) (i c : ℕ) (ways′ decided′ : List ℕ) : Type 0 where
-  pub sizes : Sizes ways′ decided′
-  pub lone : Lone (rowOf ways′ i) c
+pub record TakenCorner (opens decided : List ℕ) (i c : ℕ) (opens′ decided′ : List ℕ) : Type 0 where
+  pub sizes : Sizes opens′ decided′
+  pub lone : Lone (rowOf opens′ i) c
   pub takes : cornerAt decided′ i ≡ c
-  pub elsewhere : (j : ℕ) → j ≢ i → rowOf ways′ j ≡ rowOf ways j
+  pub elsewhere : (j : ℕ) → j ≢ i → rowOf opens′ j ≡ rowOf opens j
   pub decided-elsewhere : (j : ℕ) → j ≢ i → cornerAt decided′ j ≡ cornerAt decided j
 
 -- Corner c of site j was closed, and the site decided if one corner is left.
-pub record ClosedCorner (ways decided : List ℕ) (j c : ℕ) (ok : Bool) (ways′ decided′ : List ℕ) : Type 0 where
-  pub sizes : Sizes ways′ decided′
-  pub shut : rowOf ways′ j c ≢ 1
-  pub kept : (e : ℕ) → e ≢ c → rowOf ways′ j e ≡ rowOf ways j e
-  pub elsewhere : (i : ℕ) → i ≢ j → rowOf ways′ i ≡ rowOf ways i
+pub record ClosedCorner (opens decided : List ℕ) (j c : ℕ) (ok : Bool) (opens′ decided′ : List ℕ) : Type 0 where
+  pub sizes : Sizes opens′ decided′
+  pub shut : rowOf opens′ j c ≢ 1
+  pub kept : (e : ℕ) → e ≢ c → rowOf opens′ j e ≡ rowOf opens j e
+  pub elsewhere : (i : ℕ) → i ≢ j → rowOf opens′ i ≡ rowOf opens i
   pub decided-elsewhere : (i : ℕ) → i ≢ j → cornerAt decided′ i ≡ cornerAt decided i
-  pub none-left : ok ≡ false → NoneOpen (rowOf ways′ j)
+  pub none-left : ok ≡ false → NoneOpen (rowOf opens′ j)
   pub some-left : ok ≡ true
-      → Lone (rowOf ways′ j) (cornerAt decided′ j) ⊎ (SomeOpen (rowOf ways′ j) × (cornerAt decided′ j ≡ cornerAt decided j))
+      → Lone (rowOf opens′ j) (cornerAt decided′ j) ⊎ (SomeOpen (rowOf opens′ j) × (cornerAt decided′ j ≡ cornerAt decided j))
 
 -- Where site j is decided, its decided corner alone is open.
-pub record Settled (ways decided : List ℕ) (j : ℕ) : Type 0 where
-  pub settled : cornerAt decided j ≢ 0 → Lone (rowOf ways j) (cornerAt decided j)
+pub record Settled (opens decided : List ℕ) (j : ℕ) : Type 0 where
+  pub settled : cornerAt decided j ≢ 0 → Lone (rowOf opens j) (cornerAt decided j)
 
 -- The same of every site.
-pub record AllSettled (n : ℕ) (ways decided : List ℕ) : Type 0 where
-  pub all-settled : (j : ℕ) → j < n → Settled ways decided j
+pub record AllSettled (n : ℕ) (opens decided : List ℕ) : Type 0 where
+  pub all-settled : (j : ℕ) → j < n → Settled opens decided j
 
--- The labels of two sites at corner c meet.
-pub record Clash (side : ℕ) (xs ys : List ℕ) (k c j : ℕ) : Type 0 where
+-- The label at corner c of a site, as the code has it.
+abbrev pub labelAt : Place → ℕ → Label
+labelAt s c = record { site = s; toward = directionsOf c }
+
+-- The labels of two sites at corners c and e meet.
+pub record Clash (side : ℕ) (xs ys : List ℕ) (k c j e : ℕ) : Type 0 where
   pub different : j ≢ k
-  pub meets : Meet side 1 (siteIn xs ys k) c (siteIn xs ys j) c
+  pub meets : Meet side 1 (siteIn xs ys k) c (siteIn xs ys j) e
 
 -- The decision of site k was carried to site j. Where j is k, nothing is to be done.
-pub record CarriedThere (P : Problem) (ways decided : List ℕ) (k j : ℕ) (ok : Bool) (ways′ decided′ : List ℕ) : Type 0 where
-  pub sizes : Sizes ways′ decided′
-  pub elsewhere : (i : ℕ) → i ≢ j → rowOf ways′ i ≡ rowOf ways i
+pub record CarriedThere (P : Problem) (Looked : ℕ → Type 0) (opens decided : List ℕ) (k j : ℕ) (ok : Bool) (opens′ decided′ : List ℕ) : Type 0 where
+  pub sizes : Sizes opens′ decided′
+  pub elsewhere : (i : ℕ) → i ≢ j → rowOf opens′ i ≡ rowOf opens i
   pub decided-elsewhere : (i : ℕ) → i ≢ j → cornerAt decided′ i ≡ cornerAt decided i
-  pub own : rowOf ways′ k ≡ rowOf ways k
+  pub own : rowOf opens′ k ≡ rowOf opens k
   pub own-decided : cornerAt decided′ k ≡ cornerAt decided k
-  pub carried : ok ≡ true → j ≢ k → CarriedTo P ways decided k j ways′ decided′
+  pub carried : ok ≡ true → j ≢ k → CarriedTo P Looked opens decided k j opens′ decided′
   pub stuck-other : ok ≡ false → j ≢ k
-  pub stuck : ok ≡ false → (e : ℕ) → rowOf ways j e ≡ 1 → P .Conflict k (cornerAt decided k) j e
+  pub stuck : ok ≡ false → (e : ℕ) → rowOf opens j e ≡ 1 → P .Conflict k (cornerAt decided k) j e
 
 -- The decision of site k was carried to every other site, or a site was left with no corner.
-pub record CarriedOut (P : Problem) (ways decided : List ℕ) (k : ℕ) (ok : Bool) (ways′ decided′ : List ℕ) : Type 0 where
-  pub sizes : Sizes ways′ decided′
-  pub carried : ok ≡ true → Carried P ways decided k ways′ decided′
-  pub stuck : ok ≡ false → Stuck P ways decided k
+pub record CarriedOut (P : Problem) (Looked : ℕ → Type 0) (opens decided : List ℕ) (k : ℕ) (ok : Bool) (opens′ decided′ : List ℕ) : Type 0 where
+  pub sizes : Sizes opens′ decided′
+  pub carried : ok ≡ true → Carried P Looked opens decided k opens′ decided′
+  pub stuck : ok ≡ false → Stuck P opens decided k
 
 -- Site k is marked: its decision has been carried out.
 abbrev pub Done : List ℕ → ℕ → Type 0
@@ -165,25 +172,25 @@ pub record Marked (decided : List ℕ) (n : ℕ) (marks : List ℕ) : Type 0 whe
   pub unmarked : (j : ℕ) → j < n → cornerAt decided j ≡ 0 → Done marks j → ⊥
 
 -- All decisions were carried out, or a site was left with no corner.
-pub record CarriedOn (P : Problem) (ways decided : List ℕ) (ok : Bool) (ways′ decided′ : List ℕ) : Type 0 where
-  pub sizes : Sizes ways′ decided′
-  pub closed : ok ≡ true → Closed P ways′ decided′
+pub record CarriedOn (P : Problem) (opens decided : List ℕ) (ok : Bool) (opens′ decided′ : List ℕ) : Type 0 where
+  pub sizes : Sizes opens′ decided′
+  pub closed : ok ≡ true → Closed P opens′ decided′
   pub later : ok ≡ true → (w d : List ℕ) (i c : ℕ) → i < P .n → c ≢ 0
-      → Later P w d i c ways decided → Later P w d i c ways′ decided′
+      → Later P w d i c opens decided → Later P w d i c opens′ decided′
   pub refused : ok ≡ false → (w d : List ℕ) (i c : ℕ) → i < P .n → c ≢ 0
-      → Later P w d i c ways decided → Refused P w i c
+      → Later P w d i c opens decided → Refused P w i c
 
 -- Corner c of site i was tried. Where that failed, the state is as it was.
-pub record Tried (P : Problem) (ways decided : List ℕ) (i c : ℕ) (ok : Bool) (ways′ decided′ : List ℕ) : Type 0 where
-  pub sizes : Sizes ways′ decided′
-  pub closed : ok ≡ true → Closed P ways′ decided′
-  pub later : ok ≡ true → Later P ways decided i c ways′ decided′
-  pub refused : ok ≡ false → Refused P ways i c
-  pub ways-back : ok ≡ false → ways′ ≡ ways
+pub record Tried (P : Problem) (opens decided : List ℕ) (i c : ℕ) (ok : Bool) (opens′ decided′ : List ℕ) : Type 0 where
+  pub sizes : Sizes opens′ decided′
+  pub closed : ok ≡ true → Closed P opens′ decided′
+  pub later : ok ≡ true → Later P opens decided i c opens′ decided′
+  pub refused : ok ≡ false → Refused P opens i c
+  pub opens-back : ok ≡ false → opens′ ≡ opens
   pub decided-back : ok ≡ false → decided′ ≡ decided
 
 -- The walk went on to site i, or there is no solution.
-pub record WalkedTo (P : Problem) (i : ℕ) (ok : Bool) (ways decided : List ℕ) : Type 0 where
-  pub sizes : Sizes ways decided
-  pub walked : ok ≡ true → Walked P i ways decided
+pub record WalkedTo (P : Problem) (i : ℕ) (ok : Bool) (opens decided : List ℕ) : Type 0 where
+  pub sizes : Sizes opens decided
+  pub walked : ok ≡ true → Walked P i opens decided
   pub no-solution : ok ≡ false → (cs : List ℕ) → Solution P cs → ⊥

@@ -8,7 +8,10 @@ use mathlib.Core.Option.{some}
 use Prim.Native.Nat.{ℕ, _+_, _*_, _≤_, _<_}
 use lib.ListN.{length, take, drop}
 use Rattle.placing.specs.declared.units.Side.{Side}
-use Rattle.placing.specs.rules.Choice.{Corners, MeetingPair, SomeGood}
+use Rattle.placing.specs.declared.units.Side.the-variants.{Free}
+use Rattle.placing.specs.declared.way.Way.{Way}
+use Rattle.placing.specs.declared.way.Way.the-variants.{Usual, Above}
+use Rattle.placing.specs.rules.Choice.{Corners, AboveCorners, MeetingPair, SomeGood}
 use Rattle.placing.specs.rules.Answer.{Answer, isSide, judgedAt, sideNumber, IsAnswer, IsChosen}
 use Rattle.plan.specs.declared.list.RefusedLine.{RefusedLine}
 use Rattle.plan.specs.declared.list.Stop.{Stop}
@@ -39,15 +42,16 @@ pub record Refuses {Given : Type 0} (given number : ℕ) (before after : Given) 
 abbrev pub EnterTold : Plan → List ℕ → (x y : ℕ) → Planned → Type 0
 EnterTold plan name x y r = Refuses (outcomeNumber (r .outcome)) (numberBy (enterTests (sitesIn plan) (wantedAt name x y))) plan (r .plan)
 
--- "Placing tests 8, 11": so does finding the side. It is lent a work table, and the plan stays with the caller.
+-- "Placing tests 8, 11": so does finding the side, by either way of placing: L2 adds a second one "with the table and refusals of L1". It is
+-- lent a work table, and the plan stays with the caller.
 abbrev pub FindTold : Plan → List ℕ → AskedSide → List ℕ → Type 0
 FindTold plan table r after =
     Refuses (sideAskedNumber r) (numberBy (findingTests (plan .count) (length table))) table after
 
--- L1, choosing at a given side: 3, 8, 11, 12. A refusal hands back the plan as it came, and the table too; "12, unlike other refusals",
--- leaves the table as choosing does.
-pub record ChooseTold (plan : Plan) (side : Side) (table : List ℕ) (r : Planned) (after : List ℕ) : Type 0 where
-  pub number-is : outcomeNumber (r .outcome) ≡ numberBy (choosingTests side (plan .count) (length table) (existsAt side (sitesIn plan)))
+-- L1, choosing at a given side: 3, 8, 11, 12, where 12 looks at the choices that count by the way. A refusal hands back the plan as it
+-- came, and the table too; "12, unlike other refusals", leaves the table as choosing does.
+pub record ChooseTold (plan : Plan) (way : Way) (side : Side) (table : List ℕ) (r : Planned) (after : List ℕ) : Type 0 where
+  pub number-is : outcomeNumber (r .outcome) ≡ numberBy (choosingTests side (plan .count) (length table) (existsAt way side (sitesIn plan)))
   pub plan-kept : (outcomeNumber (r .outcome) ≡ 0 → ⊥) → r .plan ≡ plan
   pub table-kept : (outcomeNumber (r .outcome) ≡ 0 → ⊥) → (outcomeNumber (r .outcome) ≡ 12 → ⊥) → after ≡ table
   pub table-cleared : (outcomeNumber (r .outcome) ≡ 0) ⊎ (outcomeNumber (r .outcome) ≡ 12) → after ≡ cleared (plan .count) table
@@ -112,23 +116,24 @@ pub data ListRefused (text : List ℕ) : ℕ → Type 0 where
   at-line : {number : ℕ} → FirstRefused text number → ListRefused text number
   no-sites : text ≡ [] → ListRefused text 8
 
--- Reading a list and placing it.
-pub data ListTold (text : List ℕ) (r : Planned) : Type 0 where
-  list-refused : ListRefused text (outcomeNumber (r .outcome)) → r .plan ≡ started → ListTold text r
-  list-placed : (sites : List Site) → Accepts text sites → outcomeNumber (r .outcome) ≡ 0 → r .plan ≡ placedPlan sites → ListTold text r
+-- Reading a list and placing it by a way.
+pub data ListTold (way : Way) (text : List ℕ) (r : Planned) : Type 0 where
+  list-refused : ListRefused text (outcomeNumber (r .outcome)) → r .plan ≡ started → ListTold way text r
+  list-placed : (sites : List Site) → Accepts text sites → outcomeNumber (r .outcome) ≡ 0 → r .plan ≡ placedPlan way sites
+      → ListTold way text r
 
 -- L1: the same at a given side. 3 is tested first, before any line of the list; 12 after 8.
-pub data RefusedAt (side : Side) (text : List ℕ) : ℕ → Type 0 where
-  out-of-range : isSide side ≡ false → RefusedAt side text 3
-  refused-list : isSide side ≡ true → {number : ℕ} → ListRefused text number → RefusedAt side text number
-  none-good : isSide side ≡ true → (sites : List Site) → Accepts text sites → (SomeGood (judgedAt side) (placesOf sites) → ⊥)
-      → RefusedAt side text 12
+pub data RefusedAt (way : Way) (side : Side) (text : List ℕ) : ℕ → Type 0 where
+  out-of-range : isSide side ≡ false → RefusedAt way side text 3
+  refused-list : isSide side ≡ true → {number : ℕ} → ListRefused text number → RefusedAt way side text number
+  none-good : isSide side ≡ true → (sites : List Site) → Accepts text sites → (SomeGood way (judgedAt side) (placesOf sites) → ⊥)
+      → RefusedAt way side text 12
 
-pub data ListToldAt (side : Side) (text : List ℕ) (r : Planned) : Type 0 where
-  refused-at : RefusedAt side text (outcomeNumber (r .outcome)) → r .plan ≡ started → ListToldAt side text r
+pub data ListToldAt (way : Way) (side : Side) (text : List ℕ) (r : Planned) : Type 0 where
+  refused-at : RefusedAt way side text (outcomeNumber (r .outcome)) → r .plan ≡ started → ListToldAt way side text r
   placed-at : (sites : List Site) (corners : List ℕ) → Accepts text sites
-      → IsChosen (placesOf sites) (record { side = side; corners = corners }) → outcomeNumber (r .outcome) ≡ 0
-      → r .plan ≡ placedWith sites (record { side = side; corners = corners }) → ListToldAt side text r
+      → IsChosen way (placesOf sites) (record { side = side; corners = corners }) → outcomeNumber (r .outcome) ≡ 0
+      → r .plan ≡ placedWith sites way (record { side = side; corners = corners }) → ListToldAt way side text r
 
 -- ---- demand 3: at every side above twice the printed number, whole or fraction, any choice of corners has two labels that meet
 
@@ -138,71 +143,87 @@ pub record NoRival (sheet : List ℕ) : Type 0 where
   pub rivals-meet : (number p q : ℕ) → numberOn sheet ≡ some number → 1 ≤ q → 2 * number * q < p
       → (corners : List ℕ) → Corners (length (spotsOn sheet)) corners → MeetingPair p q (spotsOn sheet) corners
 
--- ---- demands 2 and 3 of the bytes of a sheet for some sites
+-- Document 02, L2, above the spot only: "The side is therefore the greatest that anybody can have under those two corners, and that is to be
+-- proved, for fractions too." A rival has corners 1 and 2, one for each line, with any side p/q above the number, that is p > number × q.
+pub record NoRivalAbove (sheet : List ℕ) : Type 0 where
+  pub rivals-meet : (number p q : ℕ) → numberOn sheet ≡ some number → 1 ≤ q → number * q < p
+      → (corners : List ℕ) → AboveCorners (length (spotsOn sheet)) corners → MeetingPair p q (spotsOn sheet) corners
 
-pub record RightSheet (sites : List Site) (sheet : List ℕ) : Type 0 where
+-- What each way guarantees of a sheet. L2, of those above: "The twice-the-side guarantee over all four corners does not cover sheets placed
+-- this way".
+abbrev pub Guarantee : Way → List ℕ → Type 0
+Guarantee Usual sheet = NoRival sheet
+Guarantee Above sheet = NoRivalAbove sheet
+
+-- ---- demands 2 and 3 of the bytes of a sheet for some sites, by a way of placing
+
+pub record RightSheet (way : Way) (sites : List Site) (sheet : List ℕ) : Type 0 where
   -- Demand 2: it prints the answer: "free, with the first good choice at 20,001. Otherwise it is the greatest h that has a good
-  -- choice, with the first good choice there."
+  -- choice, with the first good choice there." L2: "Free and first mean what they do now."
   pub answer : Answer
-  pub is-answer : IsAnswer (placesOf sites) answer
+  pub is-answer : IsAnswer way (placesOf sites) answer
   pub prints : sheet ≡ sheetWith sites answer
   -- "Its number is the side it prints", exactly when that is a number, "its spots are the x and y on the site lines under it".
   pub number : numberOn sheet ≡ sideNumber (answer .side)
   pub spots : spotsOn sheet ≡ placesOf sites
   -- "Leaving out the first line and, of each other line, the last field with the tab before it gives the list back",
   pub list : carried sheet ≡ listText sites
-  -- which, read again, gives the same sheet.
-  pub again : outputOf (carried sheet) ≡ sheet
-  -- Demand 3.
-  pub no-rival : NoRival sheet
+  -- which, read again, gives the same sheet when placed the same way.
+  pub again : outputOf way (carried sheet) ≡ sheet
+  -- Where it is free, its labels meet at no side, whole or fraction: "if a good choice exists at 20,001, it is good at every side".
+  pub free-apart : answer .side ≡ Free → (p q : ℕ) → MeetingPair p q (spotsOn sheet) (answer .corners) → ⊥
+  -- Demand 3 by the usual way, and above what stands for it.
+  pub guarantee : Guarantee way sheet
 
--- ---- the same of a sheet at whatever side its plan was placed (document 02, L1)
+-- ---- the same of a sheet at whatever side its plan was placed (document 02, L1 and L2)
 
--- "At the side found for that very plan": the printed side is that of the answer for the spots, all read off the bytes.
-pub record PrintsFound (sheet : List ℕ) : Type 0 where
+-- "At the side found for that very plan": the printed side is that of the answer for the spots by the way, all read off the bytes. L2, of one
+-- found above: it "counts as a given one where four corners are chosen at it", since there the side found the usual way is asked for.
+pub record PrintsFound (way : Way) (sheet : List ℕ) : Type 0 where
   pub found : Answer
-  pub is-answer : IsAnswer (spotsOn sheet) found
+  pub is-answer : IsAnswer way (spotsOn sheet) found
   pub printed : sideOn sheet ≡ some (found .side)
 
-pub record PlacedSheet (sites : List Site) (side : Side) (sheet : List ℕ) : Type 0 where
-  -- "The plan remembers the side it was placed at, and the sheet prints that one", with the first good choice there.
+pub record PlacedSheet (way : Way) (sites : List Site) (side : Side) (sheet : List ℕ) : Type 0 where
+  -- "The plan remembers the side it was placed at, and the sheet prints that one", with the first good choice there by the way.
   pub corners : List ℕ
-  pub is-chosen : IsChosen (placesOf sites) (record { side = side; corners = corners })
+  pub is-chosen : IsChosen way (placesOf sites) (record { side = side; corners = corners })
   pub prints : sheet ≡ sheetWith sites (record { side = side; corners = corners })
   pub side-on : sideOn sheet ≡ some side
   pub spots : spotsOn sheet ≡ placesOf sites
   pub list : carried sheet ≡ listText sites
-  -- "The list a sheet carries gives the same sheet again when placed at the same side", which is read off its bytes.
-  pub again : (printed : Side) → sideOn sheet ≡ some printed → outputAt printed (carried sheet) ≡ sheet
-  -- "That the side is the greatest, and the twice-the-side guarantee, then hold only at the side found": there it is right as above.
-  pub at-found : PrintsFound sheet → RightSheet sites sheet
+  -- L2: "The sheet keeps its form; its list gives the same sheet again when placed the same way at the same side", which is read off its
+  -- bytes.
+  pub again : (printed : Side) → sideOn sheet ≡ some printed → outputAt way printed (carried sheet) ≡ sheet
+  -- "That the side is the greatest, and the twice-the-side guarantee, then hold only at the side found": there it is right as said before.
+  pub at-found : PrintsFound way sheet → RightSheet way sites sheet
 
 -- "The sheet is what an accepted writing leaves in the buffer, from its first byte up to the length it gives."
-abbrev pub SheetWritten : List Site → Side → Written → List ℕ → Type 0
-SheetWritten sites side (Bytes n) buffer = PlacedSheet sites side (take n buffer)
-SheetWritten sites side (NotWritten why) buffer = Unit {0}
+abbrev pub SheetWritten : Way → List Site → Side → Written → List ℕ → Type 0
+SheetWritten way sites side (Bytes n) buffer = PlacedSheet way sites side (take n buffer)
+SheetWritten way sites side (NotWritten why) buffer = Unit {0}
 
--- ---- from a list to its output: all three
+-- ---- from a list to its output, by a way of placing: all three
 
 -- A sheet for a list that is accepted, which it carries byte for byte.
-pub record SheetFor (text sheet : List ℕ) : Type 0 where
+pub record SheetFor (way : Way) (text sheet : List ℕ) : Type 0 where
   pub sites : List Site
   pub accepts : Accepts text sites
-  pub right : RightSheet sites sheet
+  pub right : RightSheet way sites sheet
   pub gives-back : carried sheet ≡ text
 
 -- Every text has its answer: the line with the number, where it is refused, else its sheet.
-pub data Answered (text output : List ℕ) : Type 0 where
-  refusal-line : {number : ℕ} → ListRefused text number → output ≡ refusalLine number → Answered text output
-  list-sheet : SheetFor text output → Answered text output
+pub data Answered (way : Way) (text output : List ℕ) : Type 0 where
+  refusal-line : {number : ℕ} → ListRefused text number → output ≡ refusalLine number → Answered way text output
+  list-sheet : SheetFor way text output → Answered way text output
 
 -- L1: at a given side likewise.
-pub record SheetForAt (side : Side) (text sheet : List ℕ) : Type 0 where
+pub record SheetForAt (way : Way) (side : Side) (text sheet : List ℕ) : Type 0 where
   pub sites : List Site
   pub accepts : Accepts text sites
-  pub placed : PlacedSheet sites side sheet
+  pub placed : PlacedSheet way sites side sheet
   pub gives-back : carried sheet ≡ text
 
-pub data AnsweredAt (side : Side) (text output : List ℕ) : Type 0 where
-  refusal-at : {number : ℕ} → RefusedAt side text number → output ≡ refusalLine number → AnsweredAt side text output
-  sheet-at : SheetForAt side text output → AnsweredAt side text output
+pub data AnsweredAt (way : Way) (side : Side) (text output : List ℕ) : Type 0 where
+  refusal-at : {number : ℕ} → RefusedAt way side text number → output ≡ refusalLine number → AnsweredAt way side text output
+  sheet-at : SheetForAt way side text output → AnsweredAt way side text output

@@ -1,5 +1,5 @@
-// The calls of document 01 on a plan, with placing split in two as document 02 asks. A call takes the plan and hands back the one after
-// it, where that can be another.
+// The calls of document 01 on a plan, with placing split in two and in two ways as document 02 asks. A call takes the plan and hands
+// back the one after it, where that can be another.
 use crate::name::name_from;
 use crate::number::coordinate_at;
 use crate::number::place_at;
@@ -15,6 +15,7 @@ use placing::place::choose_corners;
 use placing::place::find_side;
 use placing::units::Limits;
 use placing::units::Side;
+use placing::way::Way;
 ghost use mathlib.Core.Path.{_≡_};
 ghost use Prim.Native.Nat.{_≤_};
 ghost use lib.ListN.{length};
@@ -57,14 +58,14 @@ fn unready(n: usize, bytes: usize) -> Outcome
     Outcome::Done
 }
 
-// Finds the greatest side of the plan's sites: tests 8, 11. The plan stays with the caller, as it was.
-pub fn find(plan: Plan, table: &mut [u8]) -> AskedSide
+// Finds the greatest side of the plan's sites by a way: tests 8, 11. The plan stays with the caller, as it was.
+pub fn find(plan: Plan, way: Way, table: &mut [u8]) -> AskedSide
     requires { ⌜ Valid plan ⌝ }
-    ensures answer { λ r. ⌜ r ≡ foundIn plan (now (table .entry)) ⌝ }
+    ensures answer { λ r. ⌜ r ≡ foundIn plan way (now (table .entry)) ⌝ }
     ensures table { λ r. ⌜ now (table .exit) ≡ tableFound plan (now (table .entry)) ⌝ }
     ensures told { λ r. ⌜ FindTold plan (now (table .entry)) r (now (table .exit)) ⌝ }
     ensures value { λ r. ⌜ sideCarried r
-        ≡ carriedAt (numberBy (findingTests (plan .count) (length (now (table .entry))))) (sideNumber (answerOf (placesOf (sitesIn plan)) .side)) ⌝ }
+        ≡ carriedAt (numberBy (findingTests (plan .count) (length (now (table .entry))))) (sideNumber (answerOf way (placesOf (sitesIn plan)) .side)) ⌝ }
 {
     let n = plan.count;
     let failed = unready(n, table.len());
@@ -72,7 +73,7 @@ pub fn find(plan: Plan, table: &mut [u8]) -> AskedSide
         return AskedSide::NoSide(why);
     }
     let places = plan.places;
-    AskedSide::SideIs(find_side(places, n, table))
+    AskedSide::SideIs(find_side(places, n, way, table))
 }
 
 // Whether a side can be given: a number from 1 to 20,000, or free.
@@ -90,13 +91,13 @@ pub fn is_side(side: Side) -> bool
     }
 }
 
-// Chooses the first good choice at a given side: tests 3, 8, 11, 12. The plan is then placed at that side.
-pub fn choose_at(plan: Plan, side: Side, table: &mut [u8]) -> Planned
+// Chooses the first good choice by a way at a given side: tests 3, 8, 11, 12. The plan is then placed that way at that side.
+pub fn choose_at(plan: Plan, way: Way, side: Side, table: &mut [u8]) -> Planned
     requires { ⌜ Valid plan ⌝ }
-    ensures answer { λ r. ⌜ r ≡ chosenIn plan side (now (table .entry)) ⌝ }
+    ensures answer { λ r. ⌜ r ≡ chosenIn plan way side (now (table .entry)) ⌝ }
     ensures table { λ r. ⌜ now (table .exit) ≡ tableChosen plan side (now (table .entry)) ⌝ }
     ensures valid { λ r. ⌜ Valid (r .plan) ⌝ }
-    ensures told { λ r. ⌜ ChooseTold plan side (now (table .entry)) r (now (table .exit)) ⌝ }
+    ensures told { λ r. ⌜ ChooseTold plan way side (now (table .entry)) r (now (table .exit)) ⌝ }
 {
     if !is_side(side) {
         return refuse(plan, Refusal::BadNumber);
@@ -107,14 +108,14 @@ pub fn choose_at(plan: Plan, side: Side, table: &mut [u8]) -> Planned
         return refuse(plan, why);
     }
     let places = plan.places;
-    let choice = choose_corners(places, n, side, table);
+    let choice = choose_corners(places, n, way, side, table);
     if !choice.exists {
         return refuse(plan, Refusal::NoGoodChoice);
     }
     let corners = choice.corners;
     Planned {
         outcome: Outcome::Done,
-        plan: Plan::placed_at(plan, side, corners),
+        plan: Plan::placed_at(plan, way, side, corners),
     }
 }
 

@@ -1,4 +1,4 @@
-// The whole way from a list to the bytes that the placing program writes, at the side found and at a given side.
+// From a list to the bytes that the placing program writes, by a way of placing, at the side found and at a given side.
 use crate::calls::choose_at;
 use crate::calls::find;
 use crate::calls::is_side;
@@ -16,6 +16,7 @@ use crate::refusal::Refusal;
 use crate::refusal::number_of;
 use crate::sheet::compose;
 use placing::units::Side;
+use placing::way::Way;
 ghost use mathlib.Core.Path.{_≡_};
 ghost use Prim.Native.Nat.{_≤_};
 ghost use lib.ListN.{length, take};
@@ -54,12 +55,12 @@ fn put_planned(planned: Planned, out: &mut [u8]) -> usize
     compose(plan, out)
 }
 
-// The plan of a list, placed at the side found; where the list is refused or has no sites, an empty plan. It lends both calls a work
+// The plan of a list, placed by a way at the side found; where the list is refused or has no sites, an empty plan. It lends both calls a work
 // table of its own.
-pub fn place_list(text: &[u8]) -> Planned
-    ensures answer { λ r. ⌜ r ≡ listPlaced (now (text .entry)) ⌝ }
+pub fn place_list(text: &[u8], way: Way) -> Planned
+    ensures answer { λ r. ⌜ r ≡ listPlaced way (now (text .entry)) ⌝ }
     ensures valid { λ r. ⌜ Valid (r .plan) ⌝ }
-    ensures told { λ r. ⌜ ListTold (now (text .entry)) r ⌝ }
+    ensures told { λ r. ⌜ ListTold way (now (text .entry)) r ⌝ }
 {
     let listed = read(text);
     let reading = listed.outcome;
@@ -68,18 +69,18 @@ pub fn place_list(text: &[u8]) -> Planned
     }
     let mut table = [0u8; TextLimits::TABLE];
     let level = listed.plan;
-    let found = find(level, &mut table);
+    let found = find(level, way, &mut table);
     match found {
-        AskedSide::SideIs(side) => choose_at(level, side, &mut table),
+        AskedSide::SideIs(side) => choose_at(level, way, side, &mut table),
         AskedSide::NoSide(why) => refuse(level, why),
     }
 }
 
-// The plan of a list, placed at a given side; an empty plan where that is refused.
-pub fn place_list_at(text: &[u8], side: Side) -> Planned
-    ensures answer { λ r. ⌜ r ≡ listPlacedAt side (now (text .entry)) ⌝ }
+// The plan of a list, placed by a way at a given side; an empty plan where that is refused.
+pub fn place_list_at(text: &[u8], way: Way, side: Side) -> Planned
+    ensures answer { λ r. ⌜ r ≡ listPlacedAt way side (now (text .entry)) ⌝ }
     ensures valid { λ r. ⌜ Valid (r .plan) ⌝ }
-    ensures told { λ r. ⌜ ListToldAt side (now (text .entry)) r ⌝ }
+    ensures told { λ r. ⌜ ListToldAt way side (now (text .entry)) r ⌝ }
 {
     if !is_side(side) {
         return refuse(Plan::start(), Refusal::BadNumber);
@@ -91,7 +92,7 @@ pub fn place_list_at(text: &[u8], side: Side) -> Planned
     }
     let mut work_table = [0u8; TextLimits::TABLE];
     let level = listed.plan;
-    let placed = choose_at(level, side, &mut work_table);
+    let placed = choose_at(level, way, side, &mut work_table);
     let choosing = placed.outcome;
     if let Outcome::Refused(why) = choosing {
         return refuse(Plan::start(), why);
@@ -99,22 +100,22 @@ pub fn place_list_at(text: &[u8], side: Side) -> Planned
     placed
 }
 
-// The output for a list: its sheet, or the line of its refusal, and its length. The array has room for every sheet.
-pub fn output(text: &[u8], buffer: &mut [u8; TextLimits::SHEET]) -> usize
-    ensures length { λ r. ⌜ r ≡ length (outputOf (now (text .entry))) ⌝ }
-    ensures buffer { λ r. ⌜ now (buffer .exit) ≡ filledWith (outputOf (now (text .entry))) (now (buffer .entry)) ⌝ }
-    ensures answered { λ r. ⌜ Answered (now (text .entry)) (take r (now (buffer .exit))) ⌝ }
+// The output for a list by a way: its sheet, or the line of its refusal, and its length. The array has room for every sheet.
+pub fn output(text: &[u8], way: Way, buffer: &mut [u8; TextLimits::SHEET]) -> usize
+    ensures length { λ r. ⌜ r ≡ length (outputOf way (now (text .entry))) ⌝ }
+    ensures buffer { λ r. ⌜ now (buffer .exit) ≡ filledWith (outputOf way (now (text .entry))) (now (buffer .entry)) ⌝ }
+    ensures answered { λ r. ⌜ Answered way (now (text .entry)) (take r (now (buffer .exit))) ⌝ }
 {
-    let placed = place_list(text);
+    let placed = place_list(text, way);
     put_planned(placed, buffer)
 }
 
-// The output for a list at a given side.
-pub fn output_at(text: &[u8], side: Side, buffer: &mut [u8; TextLimits::SHEET]) -> usize
-    ensures length { λ r. ⌜ r ≡ length (outputAt side (now (text .entry))) ⌝ }
-    ensures buffer { λ r. ⌜ now (buffer .exit) ≡ filledWith (outputAt side (now (text .entry))) (now (buffer .entry)) ⌝ }
-    ensures answered { λ r. ⌜ AnsweredAt side (now (text .entry)) (take r (now (buffer .exit))) ⌝ }
+// The output for a list by a way at a given side.
+pub fn output_at(text: &[u8], way: Way, side: Side, buffer: &mut [u8; TextLimits::SHEET]) -> usize
+    ensures length { λ r. ⌜ r ≡ length (outputAt way side (now (text .entry))) ⌝ }
+    ensures buffer { λ r. ⌜ now (buffer .exit) ≡ filledWith (outputAt way side (now (text .entry))) (now (buffer .entry)) ⌝ }
+    ensures answered { λ r. ⌜ AnsweredAt way side (now (text .entry)) (take r (now (buffer .exit))) ⌝ }
 {
-    let placed = place_list_at(text, side);
+    let placed = place_list_at(text, way, side);
     put_planned(placed, buffer)
 }

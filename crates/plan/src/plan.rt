@@ -1,4 +1,4 @@
-// A plan: the sites of one level in list order and, once it is placed, its side and corners.
+// A plan: the sites of one level in list order and, once it is placed, the way, its side and corners.
 use crate::name::Name;
 use crate::name::NameRead;
 use crate::name::same_name;
@@ -9,6 +9,7 @@ use placing::units::Limits;
 use placing::units::Place;
 use placing::units::Side;
 use placing::units::Units;
+use placing::way::Way;
 ghost use mathlib.Core.Path.{_≡_};
 ghost use Prim.Native.Nat.{_≤_};
 ghost use Rattle.placing.specs.rules.Units.{mostSites};
@@ -22,13 +23,14 @@ ghost use Rattle.plan.specs.code.PlanLaws.{unplacedOf, placedOf};
 ghost use Rattle.plan.specs.code.Taken.{PaddedNames, namesTaken, placesTaken};
 ghost use Rattle.plan.specs.code.Entering.{NameFits, PlaceFits, wantedRead, outcomeOf, rows};
 
-// Slots past the count hold nothing: a name of no bytes, the place 0, 0 and corner 0. While a plan is not placed, its side is
-// free and its corners are 0.
+// Slots past the count hold nothing: a name of no bytes, the place 0, 0 and corner 0. While a plan is not placed, its way is the
+// usual one, its side is free and its corners are 0.
 pub struct Plan {
     pub count: usize,
     pub names: [Name; Limits::SITES],
     pub places: [Place; Limits::SITES],
     pub placed: bool,
+    pub way: Way,
     pub side: Side,
     pub corners: [u8; Limits::SITES],
 }
@@ -80,14 +82,15 @@ impl Plan {
             names,
             places,
             placed: false,
+            way: Way::Usual,
             side: Side::Free,
             corners: [0u8; Limits::SITES],
         }
     }
 
-    // The plan placed at a side with these corners.
-    pub(crate) fn placed_at(plan: Plan, side: Side, corners: [u8; Limits::SITES]) -> Plan
-        ensures { λ r. ⌜ r ≡ placedOf (plan .count) (plan .names) (plan .places) side corners ⌝ }
+    // The plan placed by a way at a side with these corners.
+    pub(crate) fn placed_at(plan: Plan, way: Way, side: Side, corners: [u8; Limits::SITES]) -> Plan
+        ensures { λ r. ⌜ r ≡ placedOf (plan .count) (plan .names) (plan .places) way side corners ⌝ }
     {
         let names = plan.names;
         let places = plan.places;
@@ -96,6 +99,7 @@ impl Plan {
             names,
             places,
             placed: true,
+            way,
             side,
             corners,
         }

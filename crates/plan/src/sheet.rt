@@ -84,7 +84,7 @@ pub fn write(plan: Plan, buffer: &mut [u8]) -> Written
     requires { ⌜ Valid plan ⌝ }
     ensures answer { λ r. ⌜ r ≡ writtenIn plan (now (buffer .entry)) ⌝ }
     ensures buffer { λ r. ⌜ now (buffer .exit) ≡ bufferAfter plan (now (buffer .entry)) ⌝ }
-    ensures sheet { λ r. ⌜ SheetWritten (sitesIn plan) (plan .side) r (now (buffer .exit)) ⌝ }
+    ensures sheet { λ r. ⌜ SheetWritten (plan .way) (sitesIn plan) (plan .side) r (now (buffer .exit)) ⌝ }
     ensures told { λ r. ⌜ WriteTold plan (now (buffer .entry)) r (now (buffer .exit)) ⌝ }
     ensures value { λ r. ⌜ writtenLength r
         ≡ carriedAt (numberBy (writeTests (plan .placed) (sheetFor plan) (now (buffer .entry)))) (length (sheetFor plan)) ⌝ }

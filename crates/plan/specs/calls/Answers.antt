@@ -7,6 +7,7 @@ use Prim.Native.Nat.{ℕ}
 use lib.Dec.{eqb}
 use lib.ListN.{length}
 use Rattle.placing.specs.declared.units.Side.{Side}
+use Rattle.placing.specs.declared.way.Way.{Way}
 use Rattle.placing.specs.rules.Answer.{Answer, sideNumber}
 use Rattle.placing.specs.deciding.Answer.{answerOf, chosenAt}
 use Rattle.plan.specs.declared.refusal.Outcome.{Outcome}
@@ -88,35 +89,36 @@ abbrev pub sideAnswer : Result Side → AskedSide
 sideAnswer (accepted side) = SideIs side
 sideAnswer (refused why) = NoSide why
 
--- Finding the side, and the table afterwards. L1: "Finding leaves the plan as it was": it hands back none.
-abbrev pub sideFound : Plan → List ℕ → Result Side
-sideFound plan table = afterTests (findingTests (plan .count) (length table)) (answerOf (placesOf (sitesIn plan)) .side)
+-- Finding the side by a way, and the table afterwards, by either. L1: "Finding leaves the plan as it was": it hands back none.
+abbrev pub sideFound : Plan → Way → List ℕ → Result Side
+sideFound plan way table = afterTests (findingTests (plan .count) (length table)) (answerOf way (placesOf (sitesIn plan)) .side)
 
-abbrev pub foundIn : Plan → List ℕ → AskedSide
-foundIn plan table = sideAnswer (sideFound plan table)
+abbrev pub foundIn : Plan → Way → List ℕ → AskedSide
+foundIn plan way table = sideAnswer (sideFound plan way table)
 
 abbrev pub tableFound : Plan → List ℕ → List ℕ
-tableFound plan table = bytesAfter (sideFound plan table) (cleared (plan .count) table) table
+tableFound plan table = bytesAfter (afterTests (findingTests (plan .count) (length table)) plan) (cleared (plan .count) table) table
 
--- Choosing at a given side: the side with the first good choice there. Then the plan, and the table afterwards.
-abbrev pub chosenFor : Plan → Side → List ℕ → Result Answer
-chosenFor plan side table =
-    afterTests (choosingTests side (plan .count) (length table) (existsAt side (sitesIn plan))) (chosenAt side (placesOf (sitesIn plan)))
+-- Choosing by a way at a given side: the side with the first good choice there. Then the plan, and the table afterwards.
+abbrev pub chosenFor : Plan → Way → Side → List ℕ → Result Answer
+chosenFor plan way side table =
+    afterTests (choosingTests side (plan .count) (length table) (existsAt way side (sitesIn plan))) (chosenAt way side (placesOf (sitesIn plan)))
 
-abbrev pub chosenIn : Plan → Side → List ℕ → Planned
-chosenIn plan side table = handed (placedWith (sitesIn plan)) plan (chosenFor plan side table)
+abbrev pub chosenIn : Plan → Way → Side → List ℕ → Planned
+chosenIn plan way side table = handed (placedWith (sitesIn plan) way) plan (chosenFor plan way side table)
 
 abbrev pub tableChosen : Plan → Side → List ℕ → List ℕ
 tableChosen plan side table =
     bytesAfter (afterTests (beforeChoice side (plan .count) (length table)) side) (cleared (plan .count) table) table
 
--- L1: "The plan remembers the side it was placed at, and the sheet prints that one": that side with the first good choice there.
+-- L1: "The plan remembers the side it was placed at, and the sheet prints that one": that side with the first good choice there, by the way
+-- that it was placed.
 abbrev pub answerFor : Plan → Answer
-answerFor plan = chosenAt (plan .side) (placesOf (sitesIn plan))
+answerFor plan = chosenAt (plan .way) (plan .side) (placesOf (sitesIn plan))
 
 -- Its sheet.
 abbrev pub sheetFor : Plan → List ℕ
-sheetFor plan = sheetAt (plan .side) (sitesIn plan)
+sheetFor plan = sheetAt (plan .way) (plan .side) (sitesIn plan)
 
 -- Asking the side.
 abbrev pub sideAsked : Plan → AskedSide
@@ -148,13 +150,13 @@ writtenIn plan buffer = writtenAnswer (lengthWritten plan buffer)
 abbrev pub bufferAfter : Plan → List ℕ → List ℕ
 bufferAfter plan buffer = bytesAfter (lengthWritten plan buffer) (filledWith (sheetFor plan) buffer) buffer
 
--- Reading a list and placing it: where it is refused or has no sites, an empty plan.
-abbrev pub listPlaced : List ℕ → Planned
-listPlaced text = handed placedPlan started (toPlace (readList text))
+-- Reading a list and placing it by a way: where it is refused or has no sites, an empty plan.
+abbrev pub listPlaced : Way → List ℕ → Planned
+listPlaced way text = handed (placedPlan way) started (toPlace (readList text))
 
 -- The same at a given side: an empty plan where there is no good choice, too.
-abbrev pub placedAt : Side → List Site → Plan
-placedAt side sites = placedWith sites (chosenAt side (placesOf sites))
+abbrev pub placedAt : Way → Side → List Site → Plan
+placedAt way side sites = placedWith sites way (chosenAt way side (placesOf sites))
 
-abbrev pub listPlacedAt : Side → List ℕ → Planned
-listPlacedAt side text = handed (placedAt side) started (toPlaceAt side (existsAt side) (readList text))
+abbrev pub listPlacedAt : Way → Side → List ℕ → Planned
+listPlacedAt way side text = handed (placedAt way side) started (toPlaceAt side (existsAt way side) (readList text))

@@ -7,6 +7,8 @@ use Prim.Native.Nat.{ℕ, _-_, _≤_}
 use lib.ListN.{length, take, replicate}
 use Rattle.placing.specs.declared.units.Place.{Place}
 use Rattle.placing.specs.declared.units.Side.the-variants.{Free}
+use Rattle.placing.specs.declared.way.Way.{Way}
+use Rattle.placing.specs.declared.way.Way.the-variants.{Usual}
 use Rattle.placing.specs.rules.Units.{nowhere, mostSites}
 use Rattle.placing.specs.rules.Answer.{Answer, IsChosen}
 use Rattle.placing.specs.deciding.Answer.{answerOf}
@@ -35,7 +37,7 @@ namesHeld sites = map nameRecord sites ++ replicate (mostSites - length sites) (
 abbrev pub placesHeld : List Site → List Place
 placesHeld sites = placesOf sites ++ replicate (mostSites - length sites) nowhere
 
--- The plan of some sites while it is not placed. Its side and corners are as the constructor leaves them.
+-- The plan of some sites while it is not placed. Its way, side and corners are as the constructor leaves them.
 unfoldable pub unplacedPlan : List Site → Plan
 unplacedPlan sites =
     record {
@@ -43,25 +45,28 @@ unplacedPlan sites =
       names = namesHeld sites;
       places = placesHeld sites;
       placed = false;
+      way = Usual;
       side = Free;
       corners = replicate mostSites 0;
     }
 
--- The plan of some sites once it is placed at a side with these corners. L1: "The plan remembers the side it was placed at."
-unfoldable pub placedWith : List Site → Answer → Plan
-placedWith sites answer =
+-- The plan of some sites once it is placed by a way at a side with these corners. L1: "The plan remembers the side it was placed at";
+-- and the way, since by L2 a sheet's list gives it again "when placed the same way at the same side".
+unfoldable pub placedWith : List Site → Way → Answer → Plan
+placedWith sites way answer =
     record {
       count = length sites;
       names = namesHeld sites;
       places = placesHeld sites;
       placed = true;
+      way = way;
       side = answer .side;
       corners = cornersHeld (answer .corners);
     }
 
 -- With the answer for their places.
-abbrev pub placedPlan : List Site → Plan
-placedPlan sites = placedWith sites (answerOf (placesOf sites))
+abbrev pub placedPlan : Way → List Site → Plan
+placedPlan way sites = placedWith sites way (answerOf way (placesOf sites))
 
 -- Names and places side by side.
 unfoldable pub sitesFrom : List Name → List Place → List Site
@@ -73,8 +78,8 @@ sitesFrom (name ∷ names) (place ∷ places) = record { name = nameHeld name; p
 unfoldable pub sitesIn : Plan → List Site
 sitesIn plan = sitesFrom (take (plan .count) (plan .names)) (take (plan .count) (plan .places))
 
--- A plan that the calls hand back: placed at a side, it has the first good choice there.
+-- A plan that the calls hand back: placed by a way at a side, it has the first good choice there.
 pub data Valid : Plan → Type 0 where
   is-unplaced : (sites : List Site) → Listed sites → Valid (unplacedPlan sites)
-  is-placed : (sites : List Site) (answer : Answer) → Listed sites → 1 ≤ length sites → IsChosen (placesOf sites) answer
-      → Valid (placedWith sites answer)
+  is-placed : (sites : List Site) (way : Way) (answer : Answer) → Listed sites → 1 ≤ length sites → IsChosen way (placesOf sites) answer
+      → Valid (placedWith sites way answer)

@@ -12,6 +12,7 @@ use lib.Seq.{take-length}
 use Rattle.placing.specs.declared.units.Place.{Place}
 use Rattle.placing.specs.declared.units.Side.{Side}
 use Rattle.placing.specs.declared.units.Side.the-variants.{Number, Free}
+use Rattle.placing.specs.declared.way.Way.{Way}
 use Rattle.placing.specs.rules.Units.{OnPlan, nowhere, along, X, Y, mostSites}
 use Rattle.placing.specs.rules.Corner.{Corner}
 use Rattle.placing.specs.rules.Choice.{Corners}
@@ -130,19 +131,19 @@ given-small : (side : Side) → isSide side ≡ true → SideSmall side
 given-small (Number side) given = number-range (side .0) given .1
 given-small Free given = tt
 
-module _ (sites : List Site) (answer : Answer) (listed : Listed sites) (chosen : IsChosen (placesOf sites) answer) where
+module _ (sites : List Site) (way : Way) (answer : Answer) (listed : Listed sites) (chosen : IsChosen way (placesOf sites) answer) where
   -- The name's record that is held at a number,
-  name-at : (i : ℕ) → i < length sites → getD (placedWith sites answer .names) i pastNames ≡ nameRecord (getD sites i noSite)
+  name-at : (i : ℕ) → i < length sites → getD (placedWith sites way answer .names) i pastNames ≡ nameRecord (getD sites i noSite)
   unfolding placedWith
   name-at i below = held-at nameRecord sites _ i pastNames noSite below
 
   -- the place,
-  place-held : (i : ℕ) → i < length sites → getD (placedWith sites answer .places) i nowhere ≡ getD sites i noSite .place
+  place-held : (i : ℕ) → i < length sites → getD (placedWith sites way answer .places) i nowhere ≡ getD sites i noSite .place
   unfolding placedWith
   place-held i below = held-at placeOf sites _ i nowhere noSite below
 
   -- and so the site.
-  site-held : (i : ℕ) → i < length sites → siteHeld (placedWith sites answer) i ≡ getD sites i noSite
+  site-held : (i : ℕ) → i < length sites → siteHeld (placedWith sites way answer) i ≡ getD sites i noSite
   site-held i below =
       ap₂ siteOf (name-at i below) (place-held i below)
       ∙ ap (λ (name : List ℕ). record { name = name; place = getD sites i noSite .place })
@@ -157,46 +158,46 @@ module _ (sites : List Site) (answer : Answer) (listed : Listed sites) (chosen :
   corners-enough = held-corners .one-each ∙ length-map sites placeOf
 
   -- and the one that is held at a number is a corner.
-  corner-held : (i : ℕ) → i < length sites → Corner (getD (placedWith sites answer .corners) i 0)
+  corner-held : (i : ℕ) → i < length sites → Corner (getD (placedWith sites way answer .corners) i 0)
   unfolding placedWith
   corner-held i below =
       rw (List·getD-append (answer .corners) _ 0 i (omega (arith, corners-enough)))
       (held-corners .corner i (omega (arith, length-map sites placeOf)))
 
   -- The place at a number is in range.
-  on-plan-held : (i : ℕ) → i < length sites → OnPlan (getD (placedWith sites answer .places) i nowhere)
+  on-plan-held : (i : ℕ) → i < length sites → OnPlan (getD (placedWith sites way answer .places) i nowhere)
   on-plan-held i below = rw (place-held i below) (listed .by-rules i below .on-plan)
 
   -- The lines of the first sites are those of the list.
-  lines-held : (i : ℕ) → linesTo (placedWith sites answer) i ≡ siteLines (take i sites) (placedWith sites answer .corners)
+  lines-held : (i : ℕ) → linesTo (placedWith sites way answer) i ≡ siteLines (take i sites) (placedWith sites way answer .corners)
   unfolding linesTo
-  lines-held i = ap (λ (l : List Site). siteLines (take i l) (placedWith sites answer .corners)) (sites-placed sites answer)
+  lines-held i = ap (λ (l : List Site). siteLines (take i l) (placedWith sites way answer .corners)) (sites-placed sites way answer)
 
   -- One site more is one line more,
   one-line-held : (i : ℕ) → i < length sites
-      → linesTo (placedWith sites answer) (suc i) ≡ linesTo (placedWith sites answer) i ++ siteLineEnded (siteHeld (placedWith sites answer) i) (getD (placedWith sites answer .corners) i 0)
+      → linesTo (placedWith sites way answer) (suc i) ≡ linesTo (placedWith sites way answer) i ++ siteLineEnded (siteHeld (placedWith sites way answer) i) (getD (placedWith sites way answer .corners) i 0)
   unfolding placedWith
   one-line-held i below =
       lines-held (suc i)
-      ∙ site-lines-more sites (placedWith sites answer .corners) i below
+      ∙ site-lines-more sites (placedWith sites way answer .corners) i below
       (simp length-append (omega (arith, corners-enough)))
-      ∙ ap₂ (λ (lines : List ℕ) (site : Site). lines ++ siteLineEnded site (getD (placedWith sites answer .corners) i 0)) (sym (lines-held i))
+      ∙ ap₂ (λ (lines : List ℕ) (site : Site). lines ++ siteLineEnded site (getD (placedWith sites way answer .corners) i 0)) (sym (lines-held i))
       (sym (site-held i below))
 
   -- and all lines, with the first, are the sheet.
-  whole-held : sideLineEnded (placedWith sites answer .side) ++ linesTo (placedWith sites answer) (length sites) ≡ sheetFor (placedWith sites answer)
+  whole-held : sideLineEnded (placedWith sites way answer .side) ++ linesTo (placedWith sites way answer) (length sites) ≡ sheetFor (placedWith sites way answer)
   unfolding placedWith sheetAt
   whole-held =
-      ap (λ (lines : List ℕ). sideLineEnded (placedWith sites answer .side) ++ lines)
+      ap (λ (lines : List ℕ). sideLineEnded (placedWith sites way answer .side) ++ lines)
       (lines-held (length sites)
-      ∙ ap (λ (l : List Site). siteLines l (placedWith sites answer .corners)) (take-length sites)
+      ∙ ap (λ (l : List Site). siteLines l (placedWith sites way answer .corners)) (take-length sites)
       ∙ lines-past sites (answer .corners) _ (omega (arith, corners-enough)))
       ∙ sheet-of-lines sites answer
       ∙ ap (sheetWith sites) (is-chosen-at chosen)
-      ∙ ap (sheetAt (answer .side)) (sym (sites-placed sites answer))
+      ∙ ap (sheetAt way (answer .side)) (sym (sites-placed sites way answer))
 
   -- So the plan of some sites can be printed.
-  placed-printable : Printable (placedWith sites answer)
+  placed-printable : Printable (placedWith sites way answer)
   unfolding placedWith linesTo siteLines
   placed-printable =
       record {
@@ -214,7 +215,7 @@ module _ (sites : List Site) (answer : Answer) (listed : Listed sites) (chosen :
 pub printable : {plan : Plan} → Valid plan → plan .placed ≡ true → Printable plan
 unfolding unplacedPlan
 printable (is-unplaced sites listed) placed = absurd (false≢true placed)
-printable (is-placed sites answer listed nonempty chosen) placed = placed-printable sites answer listed chosen
+printable (is-placed sites way answer listed nonempty chosen) placed = placed-printable sites way answer listed chosen
 
 -- ---- the lines written so far
 

@@ -13,9 +13,11 @@ use Rattle.placing.specs.declared.choice.Choice.{Choice}
 use Rattle.placing.specs.declared.units.Place.{Place}
 use Rattle.placing.specs.declared.units.Side.{Side}
 use Rattle.placing.specs.declared.units.Side.the-variants.{Free}
+use Rattle.placing.specs.declared.way.Way.{Way}
+use Rattle.placing.specs.declared.way.Way.the-variants.{Usual}
 use Rattle.placing.specs.rules.Units.{nowhere, mostSites}
 use Rattle.placing.specs.rules.Answer.{judgedAt}
-use Rattle.placing.specs.deciding.Answer.{firstGood, isSome, chosenAt}
+use Rattle.placing.specs.deciding.Answer.{firstGood, chosenAt}
 use Rattle.placing.specs.calls.Placing.{choiceAs, MayPlace}
 use Rattle.plan.specs.declared.name.Name.{Name}
 use Rattle.plan.specs.declared.plan.Plan.{Plan}
@@ -33,7 +35,7 @@ use Rattle.plan.specs.code.Taken.{siteOf, PaddedNames, namesTaken, place
 -- A plan that is not placed, from its count, names and places.
 abbrev pub unplacedOf : ℕ → List Name → List Place → Plan
 unplacedOf count names places =
-    record { count = count; names = names; places = places; placed = false; side = Free; corners = replicate mostSites 0 }
+    record { count = count; names = names; places = places; placed = false; way = Usual; side = Free; corners = replicate mostSites 0 }
 
 -- With every slot empty it is the plan of no sites.
 pub empty-started : {none : Name} → none ≡ nameOf [] → unplacedOf 0 (replicate mostSites none) (replicate mostSites nowhere) ≡ unplacedPlan []
@@ -114,27 +116,26 @@ holding-more {plan} {sites} holding name place named room = λ k. unplacedOf (co
 
 -- ---- placing
 
--- A plan with its side and corners.
-abbrev pub placedOf : ℕ → List Name → List Place → Side → List ℕ → Plan
-placedOf count names places side corners =
-    record { count = count; names = names; places = places; placed = true; side = side; corners = corners }
+-- A plan with its way, side and corners.
+abbrev pub placedOf : ℕ → List Name → List Place → Way → Side → List ℕ → Plan
+placedOf count names places way side corners =
+    record { count = count; names = names; places = places; placed = true; way = way; side = side; corners = corners }
 
--- The plan with the choice at a side for its places is that of its sites, placed there.
-pub holding-placed : {plan : Plan} {sites : List Site} → Holding plan sites → (side : Side) (choice : Choice)
-    → choice ≡ choiceAs (firstGood (judgedAt side) (take (plan .count) (plan .places)))
-    → placedOf (plan .count) (plan .names) (plan .places) side (choice .corners) ≡ placedWith sites (chosenAt side (placesOf sites))
-unfolding placedWith chosenAt
-holding-placed {plan} {sites} holding side choice e =
-    λ k. placedOf (holding .count k) (holding .names k) (holding .places k) side (same k .corners)
-  where
-    same : choice ≡ choiceAs (firstGood (judgedAt side) (placesOf sites))
-    same = e ∙ ap (λ (places : List Place). choiceAs (firstGood (judgedAt side) places)) (holding-places holding)
+module _ {plan : Plan} {sites : List Site} (holding : Holding plan sites) (way : Way) (side : Side) (choice : Choice)
+    (e : choice ≡ choiceAs (firstGood way (judgedAt side) (take (plan .count) (plan .places)))) where
+  -- The choice by a way at a side for a plan's places is that for its sites.
+  choice-held : choice ≡ choiceAs (firstGood way (judgedAt side) (placesOf sites))
+  choice-held = e ∙ ap (λ (places : List Place). choiceAs (firstGood way (judgedAt side) places)) (holding-places holding)
 
--- Whether there is one is the rules' too.
-pub holding-exists : {plan : Plan} {sites : List Site} → Holding plan sites → (side : Side) (choice : Choice)
-    → choice ≡ choiceAs (firstGood (judgedAt side) (take (plan .count) (plan .places))) → choice .exists ≡ existsAt side sites
-holding-exists holding side choice e =
-    ap (λ (c : Choice). c .exists) e ∙ ap (λ (places : List Place). isSome (firstGood (judgedAt side) places)) (holding-places holding)
+  -- So the plan with it is that of its sites, placed there,
+  pub holding-placed : {after : Plan} → after ≡ placedOf (plan .count) (plan .names) (plan .places) way side (choice .corners)
+      → after ≡ placedWith sites way (chosenAt way side (placesOf sites))
+  unfolding placedWith chosenAt
+  holding-placed is = is ∙ (λ k. placedOf (holding .count k) (holding .names k) (holding .places k) way side (choice-held k .corners))
+
+  -- and whether there is one is the rules' too.
+  pub holding-exists : choice .exists ≡ existsAt way side sites
+  holding-exists = ap (λ (c : Choice). c .exists) choice-held
 
 -- Its places may be placed, where no test of finding holds: there are some sites, and the table has room.
 pub holding-ready : {plan : Plan} {sites : List Site} → Holding plan sites → (table : List ℕ)

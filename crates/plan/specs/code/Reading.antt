@@ -55,6 +55,7 @@ withRead plan line =
       names = set (plan .names) (plan .count) (line .name .name);
       places = set (plan .places) (plan .count) (line .place .place);
       placed = plan .placed;
+      way = plan .way;
       side = plan .side;
       corners = plan .corners;
     }
@@ -144,6 +145,7 @@ module _ {text : List ℕ} {plan : Plan} {at : ℕ} (so-far : Reading text plan 
             names = set (plan .names) (plan .count) (line .name .name);
             places = set (plan .places) (plan .count) (line .place .place);
             placed = so-far .held k .placed;
+            way = so-far .held k .way;
             side = so-far .held k .side;
             corners = so-far .held k .corners;
           })

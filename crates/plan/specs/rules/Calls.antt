@@ -1,6 +1,7 @@
 -- Document 01, "Calls on a plan", with placing as document 02, L1, has split it: the tables of finding, choosing, asking and writing, the
--- value where a call is accepted, and the lent bytes afterwards. Entering and reading stand in `List`; what start and count hand back, and
--- which plans the calls hand back, in `calls/`.
+-- value where a call is accepted, and the lent bytes afterwards. L2 adds a second way of placing "with the table and refusals of L1": they
+-- are the same by both. Entering and reading stand in `List`; what start and count hand back, and which plans the calls hand back, in
+-- `calls/`.
 -- Assumes nothing.
 use mathlib.Core.Bool.{Bool, not}
 use mathlib.Core.List.{List, [], _∷_, _++_}

@@ -11,6 +11,7 @@ use borrow.Author.Tests.{ne-eqb}
 use lib.Dec.{eqb, ltb}
 use lib.ListN.{length}
 use Rattle.placing.specs.declared.units.Side.{Side}
+use Rattle.placing.specs.declared.way.Way.{Way}
 use Rattle.placing.specs.rules.Choice.{cornerAt}
 use Rattle.placing.specs.rules.Answer.{isSide, sideNumber}
 use Rattle.placing.specs.deciding.Answer.{answerOf, chosenAt}
@@ -71,30 +72,31 @@ enter-told plan name x y both =
     by-first (some why) more = record { number-is = refl; as-it-came = λ given. refl }
 
 -- Finding gives 8, 11, or the side; refused, it leaves the table as it came.
-pub find-told : {r : AskedSide} {after : List ℕ} (plan : Plan) (table : List ℕ) → r ≡ foundIn plan table → after ≡ tableFound plan table
+pub find-told : {r : AskedSide} {after : List ℕ} (plan : Plan) (way : Way) (table : List ℕ) → r ≡ foundIn plan way table
+    → after ≡ tableFound plan table
     → FindTold plan table r after
     × (sideCarried r
-    ≡ carriedAt (numberBy (findingTests (plan .count) (length table))) (sideNumber (answerOf (placesOf (sitesIn plan)) .side)))
-find-told plan table is left =
-    rw (is, left) (by-first (firstRefusal (findingTests (plan .count) (length table))) (answerOf (placesOf (sitesIn plan)) .side))
+    ≡ carriedAt (numberBy (findingTests (plan .count) (length table))) (sideNumber (answerOf way (placesOf (sitesIn plan)) .side)))
+find-told plan way table is left =
+    rw (is, left) (by-first (firstRefusal (findingTests (plan .count) (length table))) (answerOf way (placesOf (sitesIn plan)) .side))
   where
     by-first : (first : Option Refusal) (side : Side)
         → Refuses (sideAskedNumber (sideAnswer (unless first side))) (refusalNumber first) table
-        (bytesAfter (unless first side) (cleared (plan .count) table) table)
+        (bytesAfter (unless first plan) (cleared (plan .count) table) table)
         × (sideCarried (sideAnswer (unless first side)) ≡ carriedAt (refusalNumber first) (sideNumber side))
     by-first none side = (record { number-is = refl; as-it-came = λ given. absurd (given refl) }, refl)
     by-first (some why) side = (record { number-is = refl; as-it-came = λ given. refl }, sym (none-carried why (sideNumber side)))
 
 -- Choosing gives 3, 8, 11, 12, or the placed plan. The tests before 12 come first: where one of them holds, the table is as it came.
-pub choose-told : {r : Planned} {after : List ℕ} (plan : Plan) (side : Side) (table : List ℕ) → r ≡ chosenIn plan side table
-    → after ≡ tableChosen plan side table → ChooseTold plan side table r after
-choose-told plan side table is left =
+pub choose-told : {r : Planned} {after : List ℕ} (plan : Plan) (way : Way) (side : Side) (table : List ℕ) → r ≡ chosenIn plan way side table
+    → after ≡ tableChosen plan side table → ChooseTold plan way side table r after
+choose-told plan way side table is left =
     let told =
-    by-tests (not (isSide side)) (eqb (plan .count) 0) (ltb (length table) (plan .count * plan .count)) (not (existsAt side (sitesIn plan))) in
+    by-tests (not (isSide side)) (eqb (plan .count) 0) (ltb (length table) (plan .count * plan .count)) (not (existsAt way side (sitesIn plan))) in
     rw (is, left) (record { number-is = told .0; plan-kept = told .1; table-kept = told .2; table-cleared = told .3 })
   where
     came : Option Refusal → Planned
-    came first = handed (placedWith (sitesIn plan)) plan (unless first (chosenAt side (placesOf (sitesIn plan))))
+    came first = handed (placedWith (sitesIn plan) way) plan (unless first (chosenAt way side (placesOf (sitesIn plan))))
 
     left-by : Option Refusal → List ℕ
     left-by early = bytesAfter (unless early side) (cleared (plan .count) table) table

@@ -9,6 +9,7 @@ use native.Mathlib.Omega.{arith}
 use borrow.Author.Tests.{eqb-false, not-false}
 use lib.ListN.{length, replicate, length-append, length-replicate}
 use Rattle.placing.specs.declared.units.Side.{Side}
+use Rattle.placing.specs.declared.way.Way.{Way}
 use Rattle.placing.specs.rules.Answer.{Answer, isSide}
 use Rattle.placing.specs.deciding.Answer.{chosenAt}
 use Rattle.placing.specs.theorems.Given.{chosen-is}
@@ -35,7 +36,7 @@ pub data HandedBack : Plan → Type 0 where
   by-start : HandedBack started
   by-enter : {plan : Plan} (name : List ℕ) (x y : ℕ) → HandedBack plan → HandedBack (enteredIn plan name x y .plan)
   by-read : (text : List ℕ) → HandedBack (readFrom text .plan)
-  by-choose : {plan : Plan} (side : Side) (table : List ℕ) → HandedBack plan → HandedBack (chosenIn plan side table .plan)
+  by-choose : {plan : Plan} (way : Way) (side : Side) (table : List ℕ) → HandedBack plan → HandedBack (chosenIn plan way side table .plan)
 
 -- ---- every valid plan is handed back
 
@@ -53,16 +54,16 @@ unplaced-handed : (sites : List Site) → Listed sites → HandedBack (unplacedP
 unplaced-handed sites listed =
     subst HandedBack (ap (λ (p : Planned). p .plan) (list-planned sites listed)) (by-read (listText sites))
 
--- and so it is once it is placed, at whatever side.
+-- and so it is once it is placed, by whatever way and at whatever side.
 pub valid-handed : {plan : Plan} → Valid plan → HandedBack plan
 unfolding unplacedPlan
 valid-handed (is-unplaced sites listed) = unplaced-handed sites listed
-valid-handed (is-placed sites answer listed nonempty chosen) =
+valid-handed (is-placed sites way answer listed nonempty chosen) =
     let table : List ℕ = replicate (length sites * length sites) 0 in
     let room : length sites * length sites ≤ length table = omega (arith, length-replicate {A = ℕ} (length sites * length sites) 0) in
     subst HandedBack
     (ap (λ (p : Planned). p .plan) (placed-by answer table (holding-unplaced listed) (sites-unplaced sites) nonempty room chosen))
-    (by-choose (answer .side) table (unplaced-handed sites listed))
+    (by-choose way (answer .side) table (unplaced-handed sites listed))
 
 -- ---- every plan that is handed back is valid
 
@@ -83,31 +84,31 @@ read-valid text = by-sites (readList text) refl
     by-sites (refused why) is = is-unplaced [] listed-none
 
 -- Choosing keeps a plan valid.
-choose-valid : {plan : Plan} (side : Side) (table : List ℕ) → Valid plan → Valid (chosenIn plan side table .plan)
-choose-valid {plan} side table valid = by-first (firstRefusal tests) refl
+choose-valid : {plan : Plan} (way : Way) (side : Side) (table : List ℕ) → Valid plan → Valid (chosenIn plan way side table .plan)
+choose-valid {plan} way side table valid = by-first (firstRefusal tests) refl
   where
     holding : Holding plan (sitesIn plan)
     holding = valid-holding valid
 
     tests : List Test
-    tests = choosingTests side (plan .count) (length table) (existsAt side (sitesIn plan))
+    tests = choosingTests side (plan .count) (length table) (existsAt way side (sitesIn plan))
 
     by-first : (first : Option Refusal) → firstRefusal tests ≡ first
-        → Valid (handed (placedWith (sitesIn plan)) plan (unless first (chosenAt side (placesOf (sitesIn plan)))) .plan)
+        → Valid (handed (placedWith (sitesIn plan) way) plan (unless first (chosenAt way side (placesOf (sitesIn plan)))) .plan)
     by-first (some why) is = valid
     by-first none is =
         let none-holds = rows-none tests is .none-holds in
         let some-sites = eqb-false (plan .count) 0 (none-holds 1 (omega arith)) in
-        is-placed (sitesIn plan) (chosenAt side (placesOf (sitesIn plan))) (holding .listed) (omega (arith, holding .count))
-        (chosen-is (placesOf (sitesIn plan)) side (not-false (isSide side) (none-holds 0 (omega arith)))
-        (not-false (existsAt side (sitesIn plan)) (none-holds 3 (omega arith))))
+        is-placed (sitesIn plan) way (chosenAt way side (placesOf (sitesIn plan))) (holding .listed) (omega (arith, holding .count))
+        (chosen-is way (placesOf (sitesIn plan)) side (not-false (isSide side) (none-holds 0 (omega arith)))
+        (not-false (existsAt way side (sitesIn plan)) (none-holds 3 (omega arith))))
 
 -- So every run of the calls does.
 pub handed-valid : {plan : Plan} → HandedBack plan → Valid plan
 handed-valid by-start = is-unplaced [] listed-none
 handed-valid (by-enter name x y before) = enter-valid name x y (handed-valid before)
 handed-valid (by-read text) = read-valid text
-handed-valid (by-choose side table before) = choose-valid side table (handed-valid before)
+handed-valid (by-choose way side table before) = choose-valid way side table (handed-valid before)
 
 -- ---- the count is the number of sites entered
 
@@ -121,14 +122,14 @@ read-counted text sites is =
     ap (λ (read : Result (List Site)). counted (handed unplacedPlan started read .plan)) is ∙ ap length (sites-unplaced sites)
 
 -- Choosing keeps them.
-pub chosen-counted : (plan : Plan) (side : Side) (table : List ℕ) → counted (chosenIn plan side table .plan) ≡ counted plan
-chosen-counted plan side table =
-    by-first (firstRefusal (choosingTests side (plan .count) (length table) (existsAt side (sitesIn plan)))) (chosenAt side (placesOf (sitesIn plan)))
+pub chosen-counted : (plan : Plan) (way : Way) (side : Side) (table : List ℕ) → counted (chosenIn plan way side table .plan) ≡ counted plan
+chosen-counted plan way side table =
+    by-first (firstRefusal (choosingTests side (plan .count) (length table) (existsAt way side (sitesIn plan)))) (chosenAt way side (placesOf (sitesIn plan)))
   where
     by-first : (first : Option Refusal) (answer : Answer)
-        → counted (handed (placedWith (sitesIn plan)) plan (unless first answer) .plan) ≡ counted plan
+        → counted (handed (placedWith (sitesIn plan) way) plan (unless first answer) .plan) ≡ counted plan
     by-first (some why) answer = refl
-    by-first none answer = ap length (sites-placed (sitesIn plan) answer)
+    by-first none answer = ap length (sites-placed (sitesIn plan) way answer)
 
 -- Sites that a site was entered into are one more.
 pub entered-more : (sites : List Site) (name : List ℕ) (x y : ℕ) {more : List Site} → entered sites (wantedAt name x y) ≡ accepted more

@@ -1,10 +1,10 @@
--- Document 01, "Known answers": the cases marked P, and some at given sides, as rows of one table with a theorem over the rows: what the
--- calls of starting, entering, finding and choosing lead to. Each row is tested by entering its sites and by the pruned search, which the checker computes, so
--- that a row more needs no proof.
+-- Document 01, "Known answers": the cases marked P, some at given sides, and some above, document 02, L2, as rows of one table with a theorem
+-- over the rows: what the calls of starting, entering, finding and choosing lead to. Each row is tested by entering its sites and by the
+-- pruned search, which the checker computes, so that a row more needs no proof.
 -- Assumes nothing.
 use mathlib.Core.Path.{_≡_, refl, sym, ap, _∙_, subst}
 use mathlib.Core.Bool.{Bool, true, false, not, _&&_}
-use mathlib.Core.List.{List, [], _∷_, map, List·Memᴰ, List·Memᴰ·cases-cons, List·Memᴰ·not-nil}
+use mathlib.Core.List.{List, [], _∷_, _++_, map, List·Memᴰ, List·Memᴰ·cases-cons, List·Memᴰ·not-nil}
 use mathlib.Core.Logic.{⊎-elim}
 use mathlib.Core.Option.{Option, some, none}
 use Prim.Native.Nat.{ℕ, suc, _+_, _*_, _≤_}
@@ -15,6 +15,8 @@ use lib.ListN.{length}
 use Rattle.placing.specs.declared.units.Place.{Place}
 use Rattle.placing.specs.declared.units.Side.{Side}
 use Rattle.placing.specs.declared.units.Side.the-variants.{Number, Free}
+use Rattle.placing.specs.declared.way.Way.{Way}
+use Rattle.placing.specs.declared.way.Way.the-variants.{Usual, Above}
 use Rattle.placing.specs.rules.Choice.{MeetingPair}
 use Rattle.placing.specs.rules.Answer.{Answer, isSide, judgedAt, numbered, free}
 use Rattle.placing.specs.deciding.Tests.{eq-decides, both-decide, not-decides, meetingTest, meeting-decides}
@@ -57,21 +59,22 @@ pub data End : Type 0 where
   answered : Answer → End
   refusedAt : (i number : ℕ) → End
 
--- Entries, the side at which they are placed, where that is given and not found, and what they lead to; and where document 01 tells it the
--- side up to which the labels of the answer do not meet.
+-- The way of placing, entries, the side at which they are placed, where that is given and not found, and what they lead to; and where
+-- document 01 tells it the side up to which the labels of the answer do not meet.
 pub record Row : Type 0 where
+  pub way : Way
   pub entries : List Entry
   pub at-side : Option Side
   pub end : End
   pub apart-to : Option ℕ
 
 -- A row of which it does not, placed at the side found,
-abbrev pub row : List Entry → End → Row
-row entries end = record { entries = entries; at-side = none; end = end; apart-to = none }
+abbrev pub row : Way → List Entry → End → Row
+row way entries end = record { way = way; entries = entries; at-side = none; end = end; apart-to = none }
 
 -- and one at a given side.
-abbrev pub given : List Entry → Side → End → Row
-given entries side end = record { entries = entries; at-side = some side; end = end; apart-to = none }
+abbrev pub given : Way → List Entry → Side → End → Row
+given way entries side end = record { way = way; entries = entries; at-side = some side; end = end; apart-to = none }
 
 abbrev pub number : ℕ → Side
 number h = Number (record { 0 = h })
@@ -82,52 +85,74 @@ number h = Number (record { 0 = h })
 abbrev pub at : (letter x y : ℕ) → Entry
 at letter x y = record { name = letter ∷ []; x = x; y = y }
 
--- The list A, B, C, and five on the diagonal.
+-- The lists of which more than one row speaks: one site, two side by side, the unit square, four and five on the diagonal, A, B, C, and
+-- nine in three rows.
+abbrev pub alone : List Entry
+alone = at 65 5 5 ∷ []
+
+abbrev pub pair : List Entry
+pair = at 65 0 0 ∷ at 66 1 0 ∷ []
+
+abbrev pub square : List Entry
+square = at 65 0 0 ∷ at 66 1 0 ∷ at 67 0 1 ∷ at 68 1 1 ∷ []
+
+abbrev pub fourDiagonal : List Entry
+fourDiagonal = at 65 0 0 ∷ at 66 1 1 ∷ at 67 2 2 ∷ at 68 3 3 ∷ []
+
+abbrev pub diagonal : List Entry
+diagonal = fourDiagonal ++ (at 69 4 4 ∷ [])
+
 abbrev pub column : List Entry
 column = at 65 10 10 ∷ at 66 10 14 ∷ at 67 10 20 ∷ []
 
-abbrev pub diagonal : List Entry
-diagonal = at 65 0 0 ∷ at 66 1 1 ∷ at 67 2 2 ∷ at 68 3 3 ∷ at 69 4 4 ∷ []
+abbrev pub nine : List Entry
+nine = at 65 0 0 ∷ at 66 1 0 ∷ at 67 2 0 ∷ at 68 0 1 ∷ at 69 1 1 ∷ at 70 2 1 ∷ at 71 0 2 ∷ at 72 1 2 ∷ at 73 2 2 ∷ []
 
--- Document 01's cases, in its order, and placing a plan of no sites; then those at given sides.
+-- Document 01's cases, in its order, and placing a plan of no sites; then those at given sides; then those above.
 abbrev pub rows : List Row
 rows =
-    row (at 65 5 5 ∷ []) (answered (free (1 ∷ [])))
-    ∷ row (at 65 0 0 ∷ at 66 1 0 ∷ []) (answered (free (2 ∷ 1 ∷ [])))
-    ∷ row (at 65 0 0 ∷ at 66 1 0 ∷ at 67 0 1 ∷ at 68 1 1 ∷ []) (answered (free (3 ∷ 4 ∷ 2 ∷ 1 ∷ [])))
-    ∷ row (at 65 0 0 ∷ at 66 1 1 ∷ at 67 2 2 ∷ at 68 3 3 ∷ []) (answered (free (3 ∷ 2 ∷ 4 ∷ 1 ∷ [])))
-    ∷ row diagonal (answered (numbered 4 (2 ∷ 4 ∷ 2 ∷ 4 ∷ 1 ∷ [])))
+    row Usual alone (answered (free (1 ∷ [])))
+    ∷ row Usual pair (answered (free (2 ∷ 1 ∷ [])))
+    ∷ row Usual square (answered (free (3 ∷ 4 ∷ 2 ∷ 1 ∷ [])))
+    ∷ row Usual fourDiagonal (answered (free (3 ∷ 2 ∷ 4 ∷ 1 ∷ [])))
+    ∷ row Usual diagonal (answered (numbered 4 (2 ∷ 4 ∷ 2 ∷ 4 ∷ 1 ∷ [])))
     ∷ record {
+      way = Usual;
       entries = column;
       at-side = none;
       end = answered (numbered 6 (3 ∷ 1 ∷ 1 ∷ []));
       apart-to = some 12;
     }
-    ∷ row
-    (at 65 0 0 ∷ at 66 1 0 ∷ at 67 2 0 ∷ at 68 0 1 ∷ at 69 1 1 ∷ at 70 2 1 ∷ at 71 0 2 ∷ at 72 1 2 ∷ at 73 2 2 ∷ [])
-    (answered (numbered 1 (1 ∷ 1 ∷ 1 ∷ 1 ∷ 1 ∷ 1 ∷ 1 ∷ 1 ∷ 1 ∷ [])))
-    ∷ row (at 65 10000 10000 ∷ []) (answered (free (1 ∷ [])))
-    ∷ row (at 65 10001 0 ∷ []) (refusedAt 0 3)
-    ∷ row (at 65 0 10001 ∷ []) (refusedAt 0 3)
-    ∷ row (at 65 5 5 ∷ at 66 5 5 ∷ []) (refusedAt 1 5)
-    ∷ row (at 65 5 5 ∷ at 65 5 5 ∷ []) (refusedAt 1 4)
-    ∷ row [] (refusedAt 0 8)
-    ∷ given column (number 4) (answered (numbered 4 (1 ∷ 1 ∷ 1 ∷ [])))
-    ∷ given column (number 5) (answered (numbered 5 (3 ∷ 1 ∷ 1 ∷ [])))
-    ∷ given column (number 6) (answered (numbered 6 (3 ∷ 1 ∷ 1 ∷ [])))
-    ∷ given column (number 7) (refusedAt 3 12)
-    ∷ given column Free (refusedAt 3 12)
-    ∷ given diagonal (number 2) (answered (numbered 2 (2 ∷ 2 ∷ 2 ∷ 2 ∷ 1 ∷ [])))
-    ∷ given diagonal (number 3) (answered (numbered 3 (2 ∷ 4 ∷ 2 ∷ 4 ∷ 1 ∷ [])))
-    ∷ given (at 65 5 5 ∷ []) (number 20000) (answered (numbered 20000 (1 ∷ [])))
-    ∷ given (at 65 5 5 ∷ []) (number 20001) (refusedAt 1 3)
-    ∷ given (at 65 5 5 ∷ []) (number 0) (refusedAt 1 3)
-    ∷ given [] (number 0) (refusedAt 0 3)
-    ∷ given [] Free (refusedAt 0 8)
+    ∷ row Usual nine (answered (numbered 1 (1 ∷ 1 ∷ 1 ∷ 1 ∷ 1 ∷ 1 ∷ 1 ∷ 1 ∷ 1 ∷ [])))
+    ∷ row Usual (at 65 10000 10000 ∷ []) (answered (free (1 ∷ [])))
+    ∷ row Usual (at 65 10001 0 ∷ []) (refusedAt 0 3)
+    ∷ row Usual (at 65 0 10001 ∷ []) (refusedAt 0 3)
+    ∷ row Usual (at 65 5 5 ∷ at 66 5 5 ∷ []) (refusedAt 1 5)
+    ∷ row Usual (at 65 5 5 ∷ at 65 5 5 ∷ []) (refusedAt 1 4)
+    ∷ row Usual [] (refusedAt 0 8)
+    ∷ given Usual column (number 4) (answered (numbered 4 (1 ∷ 1 ∷ 1 ∷ [])))
+    ∷ given Usual column (number 5) (answered (numbered 5 (3 ∷ 1 ∷ 1 ∷ [])))
+    ∷ given Usual column (number 6) (answered (numbered 6 (3 ∷ 1 ∷ 1 ∷ [])))
+    ∷ given Usual column (number 7) (refusedAt 3 12)
+    ∷ given Usual column Free (refusedAt 3 12)
+    ∷ given Usual diagonal (number 2) (answered (numbered 2 (2 ∷ 2 ∷ 2 ∷ 2 ∷ 1 ∷ [])))
+    ∷ given Usual diagonal (number 3) (answered (numbered 3 (2 ∷ 4 ∷ 2 ∷ 4 ∷ 1 ∷ [])))
+    ∷ given Usual alone (number 20000) (answered (numbered 20000 (1 ∷ [])))
+    ∷ given Usual alone (number 20001) (refusedAt 1 3)
+    ∷ given Usual alone (number 0) (refusedAt 1 3)
+    ∷ given Usual [] (number 0) (refusedAt 0 3)
+    ∷ given Usual [] Free (refusedAt 0 8)
+    ∷ row Above square (answered (numbered 2 (1 ∷ 1 ∷ 1 ∷ 1 ∷ [])))
+    ∷ row Above column (answered (numbered 8 (1 ∷ 1 ∷ 1 ∷ [])))
+    ∷ row Above fourDiagonal (answered (numbered 2 (1 ∷ 1 ∷ 1 ∷ 1 ∷ [])))
+    ∷ row Above nine (answered (numbered 2 (1 ∷ 1 ∷ 1 ∷ 1 ∷ 1 ∷ 1 ∷ 1 ∷ 1 ∷ 1 ∷ [])))
+    ∷ row Above (at 65 0 0 ∷ at 66 3 0 ∷ at 67 10 0 ∷ []) (answered (numbered 14 (2 ∷ 1 ∷ 1 ∷ [])))
+    ∷ row Above pair (answered (free (2 ∷ 1 ∷ [])))
+    ∷ row Above alone (answered (free (1 ∷ [])))
     ∷ []
 
 -- So many rows: one that is left out is missed.
-pub rows-count : length rows ≡ 25
+pub rows-count : length rows ≡ 32
 rows-count = refl
 
 -- ---- what entries lead to
@@ -141,28 +166,28 @@ afterStep next i (Refused why) plan = refusedAt i (numberOf why)
 abbrev pub onward : (Plan → End) → ℕ → Planned → End
 onward next i planned = afterStep next i (planned .outcome) (planned .plan)
 
--- Choosing at a side, and at the one that was found.
-abbrev pub chosenEnd : List ℕ → ℕ → Plan → Side → End
-chosenEnd table i plan side = onward (λ end. answered (answerIn end)) i (chosenIn plan side table)
+-- Choosing by a way at a side, and at the one that was found.
+abbrev pub chosenEnd : List ℕ → ℕ → Plan → Way → Side → End
+chosenEnd table i plan way side = onward (λ end. answered (answerIn end)) i (chosenIn plan way side table)
 
-abbrev pub foundEnd : List ℕ → ℕ → Plan → AskedSide → End
-foundEnd table i plan (SideIs side) = chosenEnd table i plan side
-foundEnd table i plan (NoSide why) = refusedAt i (numberOf why)
+abbrev pub foundEnd : List ℕ → ℕ → Plan → Way → AskedSide → End
+foundEnd table i plan way (SideIs side) = chosenEnd table i plan way side
+foundEnd table i plan way (NoSide why) = refusedAt i (numberOf why)
 
 -- Placing at a side, where one is given, else at the one that is found. Each call is lent a table of this length.
-abbrev pub placedEnd : List ℕ → ℕ → Plan → Option Side → End
-placedEnd table i plan none = foundEnd table i plan (foundIn plan table)
-placedEnd table i plan (some side) = chosenEnd table i plan side
+abbrev pub placedEnd : List ℕ → ℕ → Plan → Way → Option Side → End
+placedEnd table i plan way none = foundEnd table i plan way (foundIn plan way table)
+placedEnd table i plan way (some side) = chosenEnd table i plan way side
 
 -- Entries from number i on, into this plan, then placing.
-abbrev pub leadsFrom : List ℕ → Option Side → ℕ → Plan → List Entry → End
-leadsFrom table side i plan [] = placedEnd table i plan side
-leadsFrom table side i plan (entry ∷ entries) =
-    onward (λ more. leadsFrom table side (suc i) more entries) i (enteredIn plan (entry .name) (entry .x) (entry .y))
+abbrev pub leadsFrom : List ℕ → Way → Option Side → ℕ → Plan → List Entry → End
+leadsFrom table way side i plan [] = placedEnd table i plan way side
+leadsFrom table way side i plan (entry ∷ entries) =
+    onward (λ more. leadsFrom table way side (suc i) more entries) i (enteredIn plan (entry .name) (entry .x) (entry .y))
 
 -- Into a started plan.
-abbrev pub leadsTo : List ℕ → Option Side → List Entry → End
-leadsTo table side entries = leadsFrom table side 0 started entries
+abbrev pub leadsTo : List ℕ → Way → Option Side → List Entry → End
+leadsTo table way side entries = leadsFrom table way side 0 started entries
 
 -- ---- the same by sites, as it is computed
 
@@ -182,8 +207,8 @@ abbrev endBy : Option (List ℕ) → ℕ → Side → List Site → End
 endBy first i side sites =
     resultEnd i (afterTests (outside side ∷ noSites (length sites) ∷ noGood (isSome first) ∷ []) (record { side = side; corners = cornersOf first }))
 
-abbrev endAt : ℕ → Side → List Site → End
-endAt i side sites = endBy (prunedFirst (judgedAt side) (placesOf sites)) i side sites
+abbrev endAt : Way → ℕ → Side → List Site → End
+endAt way i side sites = endBy (prunedFirst way (judgedAt side) (placesOf sites)) i side sites
 
 -- What follows an entry: nothing where it is refused.
 abbrev runOn : (List Site → Run) → ℕ → Result (List Site) → Run
@@ -191,66 +216,66 @@ runOn next i (accepted sites) = next sites
 runOn next i (refused why) = stopped i why
 
 -- Placing these sites; placing no sites is refused.
-abbrev runPlaced : Option Side → ℕ → List Site → Run
-runPlaced (some side) i sites = ended (endAt i side sites)
-runPlaced none i [] = stopped i NoSites
-runPlaced none i (site ∷ sites) = through (site ∷ sites)
+abbrev runPlaced : Way → Option Side → ℕ → List Site → Run
+runPlaced way (some side) i sites = ended (endAt way i side sites)
+runPlaced way none i [] = stopped i NoSites
+runPlaced way none i (site ∷ sites) = through (site ∷ sites)
 
 -- Entries from number i on, after these sites.
-abbrev runFrom : Option Side → ℕ → List Site → List Entry → Run
-runFrom side i sites [] = runPlaced side i sites
-runFrom side i sites (entry ∷ entries) =
-    runOn (λ more. runFrom side (suc i) more entries) i (entered sites (wantedAt (entry .name) (entry .x) (entry .y)))
+abbrev runFrom : Way → Option Side → ℕ → List Site → List Entry → Run
+runFrom way side i sites [] = runPlaced way side i sites
+runFrom way side i sites (entry ∷ entries) =
+    runOn (λ more. runFrom way side (suc i) more entries) i (entered sites (wantedAt (entry .name) (entry .x) (entry .y)))
 
 -- All sites have the answer for their places; a refusal is its number.
-abbrev endOf : Run → End
-endOf (through sites) = answered (answerOf (placesOf sites))
-endOf (stopped i why) = refusedAt i (numberOf why)
-endOf (ended end) = end
+abbrev endOf : Way → Run → End
+endOf way (through sites) = answered (answerOf way (placesOf sites))
+endOf way (stopped i why) = refusedAt i (numberOf why)
+endOf way (ended end) = end
 
--- With a table for so many sites.
-module _ (table : List ℕ) (most : ℕ) (enough : most * most ≤ length table) where
+-- By a way, with a table for so many sites.
+module _ (way : Way) (table : List ℕ) (most : ℕ) (enough : most * most ≤ length table) where
   -- Choosing at a side for sites that are listed.
   choosing-run : (side : Side) (i : ℕ) (sites : List Site) → Listed sites → length sites ≤ most
-      → chosenEnd table i (unplacedPlan sites) side ≡ endAt i side sites
+      → chosenEnd table i (unplacedPlan sites) way side ≡ endAt way i side sites
   unfolding chosenAt
   choosing-run side i sites listed few =
-      ap (onward (λ end. answered (answerIn end)) i) (chosen-listed side sites table (le-trans (mul-le-mul few few) enough))
-      ∙ by-tests (isSide side) refl (eqb (length sites) 0) (existsAt side sites) refl
-      ∙ ap (λ (first : Option (List ℕ)). endBy first i side sites) (sym (pruned-same (judgedAt side) (placesOf sites)))
+      ap (onward (λ end. answered (answerIn end)) i) (chosen-listed way side sites table (le-trans (mul-le-mul few few) enough))
+      ∙ by-tests (isSide side) refl (eqb (length sites) 0) (existsAt way side sites) refl
+      ∙ ap (λ (first : Option (List ℕ)). endBy first i side sites) (sym (pruned-same way (judgedAt side) (placesOf sites)))
     where
       tests : (a b d : Bool) → List Test
       tests a b d = not a gives BadNumber ∷ b gives NoSites ∷ not d gives NoGoodChoice ∷ []
 
-      by-tests : (a : Bool) → isSide side ≡ a → (b d : Bool) → existsAt side sites ≡ d
+      by-tests : (a : Bool) → isSide side ≡ a → (b d : Bool) → existsAt way side sites ≡ d
           → onward (λ end. answered (answerIn end)) i
-          (handed (placedWith sites) (unplacedPlan sites) (afterTests (tests a b d) (chosenAt side (placesOf sites))))
-          ≡ resultEnd i (afterTests (tests a b d) (chosenAt side (placesOf sites)))
+          (handed (placedWith sites way) (unplacedPlan sites) (afterTests (tests a b d) (chosenAt way side (placesOf sites))))
+          ≡ resultEnd i (afterTests (tests a b d) (chosenAt way side (placesOf sites)))
       by-tests false given b d there = refl
       by-tests true given true d there = refl
       by-tests true given false false there = refl
       by-tests true given false true there =
-          ap answered (placed-answer sites (chosenAt side (placesOf sites)) (chosen-is (placesOf sites) side given there))
+          ap answered (placed-answer sites (chosenAt way side (placesOf sites)) (chosen-is way (placesOf sites) side given there))
 
   -- Finding the side first.
   finding-run : (i : ℕ) (sites : List Site) → Listed sites → length sites ≤ most
-      → foundEnd table i (unplacedPlan sites) (foundIn (unplacedPlan sites) table) ≡ endOf (runPlaced none i sites)
+      → foundEnd table i (unplacedPlan sites) way (foundIn (unplacedPlan sites) way table) ≡ endOf way (runPlaced way none i sites)
   unfolding unplacedPlan
   finding-run i [] listed few = refl
   finding-run i (site ∷ sites) listed few =
       let plan = unplacedPlan (site ∷ sites) in
       let room = le-trans (mul-le-mul few few) enough in
-      let answer = answerOf (placesOf (site ∷ sites)) in
-      let found = found-done plan table (λ none. omega arith) room in
-      let side = ap (λ (l : List Site). answerOf (placesOf l) .side) (sites-unplaced (site ∷ sites)) in
-      ap (λ (r : Result Side). foundEnd table i plan (sideAnswer r)) (found ∙ ap accepted side)
+      let answer = answerOf way (placesOf (site ∷ sites)) in
+      let found = found-done plan table (λ none. omega arith) room way in
+      let side = ap (λ (l : List Site). answerOf way (placesOf l) .side) (sites-unplaced (site ∷ sites)) in
+      ap (λ (r : Result Side). foundEnd table i plan way (sideAnswer r)) (found ∙ ap accepted side)
       ∙ ap (onward (λ end. answered (answerIn end)) i)
-      (placed-by answer table (holding-unplaced listed) (sites-unplaced (site ∷ sites)) (omega arith) room (answer-listed (site ∷ sites) listed))
-      ∙ ap answered (placed-answer (site ∷ sites) answer (answer-listed (site ∷ sites) listed))
+      (placed-by answer table (holding-unplaced listed) (sites-unplaced (site ∷ sites)) (omega arith) room (answer-listed way (site ∷ sites) listed))
+      ∙ ap answered (placed-answer (site ∷ sites) answer (answer-listed way (site ∷ sites) listed))
 
   -- The calls on plans lead where the sites by themselves do.
   leads-run : (side : Option Side) (i : ℕ) (sites : List Site) → Listed sites → (entries : List Entry) → length sites + length entries ≤ most
-      → leadsFrom table side i (unplacedPlan sites) entries ≡ endOf (runFrom side i sites entries)
+      → leadsFrom table way side i (unplacedPlan sites) entries ≡ endOf way (runFrom way side i sites entries)
   leads-run none i sites listed [] few = finding-run i sites listed (omega arith)
   leads-run (some side) i sites listed [] few = choosing-run side i sites listed (omega arith)
   leads-run side i sites listed (entry ∷ entries) few =
@@ -258,10 +283,10 @@ module _ (table : List ℕ) (most : ℕ) (enough : most * most ≤ length table)
       (step (λ more each fewer. leads-run side (suc i) more each entries fewer) (entered sites (wantedAt (entry .name) (entry .x) (entry .y))) refl)
     where
       step : ((more : List Site) → Listed more → length more + length entries ≤ most
-          → leadsFrom table side (suc i) (unplacedPlan more) entries ≡ endOf (runFrom side (suc i) more entries))
+          → leadsFrom table way side (suc i) (unplacedPlan more) entries ≡ endOf way (runFrom way side (suc i) more entries))
           → (after : Result (List Site)) → entered sites (wantedAt (entry .name) (entry .x) (entry .y)) ≡ after
-          → onward (λ more. leadsFrom table side (suc i) more entries) i (handed unplacedPlan (unplacedPlan sites) after)
-          ≡ endOf (runOn (λ more. runFrom side (suc i) more entries) i after)
+          → onward (λ more. leadsFrom table way side (suc i) more entries) i (handed unplacedPlan (unplacedPlan sites) after)
+          ≡ endOf way (runOn (λ more. runFrom way side (suc i) more entries) i after)
       step further (accepted more) e =
           further more (entered-listed (entry .name) (entry .x) (entry .y) listed e)
           (omega (arith, entered-more sites (entry .name) (entry .x) (entry .y) e))
@@ -301,11 +326,11 @@ same-end (refusedAt j number) (refusedAt i other) test =
     λ k. refusedAt (same .0 k) (same .1 k)
 
 -- A run ends so: the answer is found by the search, another end is this one.
-abbrev endTest : Run → End → Bool
-endTest (through sites) (answered answer) = checkedTest (placesOf sites) answer
-endTest (through sites) (refusedAt i number) = false
-endTest (stopped j why) end = sameEnd (refusedAt j (numberOf why)) end
-endTest (ended one) end = sameEnd one end
+abbrev endTest : Way → Run → End → Bool
+endTest way (through sites) (answered answer) = checkedTest way (placesOf sites) answer
+endTest way (through sites) (refusedAt i number) = false
+endTest way (stopped j why) end = sameEnd (refusedAt j (numberOf why)) end
+endTest way (ended one) end = sameEnd one end
 
 -- The places of entries.
 abbrev pub spots : List Entry → List Place
@@ -317,8 +342,12 @@ apartTest places end none = true
 apartTest places (answered answer) (some side) = not (meetingTest side 1 places (answer .corners))
 apartTest places (refusedAt i number) (some side) = false
 
+-- The run of a row, and its tests.
+abbrev runOf : Row → Run
+runOf row = runFrom (row .way) (row .at-side) 0 [] (row .entries)
+
 abbrev rowTest : Row → Bool
-rowTest row = endTest (runFrom (row .at-side) 0 [] (row .entries)) (row .end) && apartTest (spots (row .entries)) (row .end) (row .apart-to)
+rowTest row = endTest (row .way) (runOf row) (row .end) && apartTest (spots (row .entries)) (row .end) (row .apart-to)
 
 abbrev rowsTest : List Row → Bool
 rowsTest [] = true
@@ -333,26 +362,25 @@ row-passed (first ∷ rows) test row member =
 
 -- So every row of the table does: antt computes it.
 known-passed : (row : Row) → List·Memᴰ row rows
-    → T (endTest (runFrom (row .at-side) 0 [] (row .entries)) (row .end)) × T (apartTest (spots (row .entries)) (row .end) (row .apart-to))
+    → T (endTest (row .way) (runOf row) (row .end)) × T (apartTest (spots (row .entries)) (row .end) (row .apart-to))
 unfolding isName allNameBytes sameBytes
 known-passed row member =
-    both-passed (endTest (runFrom (row .at-side) 0 [] (row .entries)) (row .end)) (apartTest (spots (row .entries)) (row .end) (row .apart-to))
+    both-passed (endTest (row .way) (runOf row) (row .end)) (apartTest (spots (row .entries)) (row .end) (row .apart-to))
     (row-passed rows tt row member)
 
 -- An end that passes its test is right.
-end-right : (run : Run) (end : End) → T (endTest run end) → endOf run ≡ end
-end-right (through sites) (answered answer) test =
-    ap answered (checked-right (placesOf sites) answer test)
-end-right (through sites) (refusedAt i number) test = absurd test
-end-right (stopped j why) end test = same-end (refusedAt j (numberOf why)) end test
-end-right (ended one) end test = same-end one end test
+end-right : (way : Way) (run : Run) (end : End) → T (endTest way run end) → endOf way run ≡ end
+end-right way (through sites) (answered answer) test = ap answered (checked-right way (placesOf sites) answer test)
+end-right way (through sites) (refusedAt i number) test = absurd test
+end-right way (stopped j why) end test = same-end (refusedAt j (numberOf why)) end test
+end-right way (ended one) end test = same-end one end test
 
 -- The entries of every row lead to its end, with a work table of n × n bytes for n entries.
 pub known : (row : Row) → List·Memᴰ row rows → (table : List ℕ) → length (row .entries) * length (row .entries) ≤ length table
-    → leadsTo table (row .at-side) (row .entries) ≡ row .end
+    → leadsTo table (row .way) (row .at-side) (row .entries) ≡ row .end
 known row member table enough =
-    leads-run table (length (row .entries)) enough (row .at-side) 0 [] listed-none (row .entries) (omega arith)
-    ∙ end-right (runFrom (row .at-side) 0 [] (row .entries)) (row .end) (known-passed row member .0)
+    leads-run (row .way) table (length (row .entries)) enough (row .at-side) 0 [] listed-none (row .entries) (omega arith)
+    ∙ end-right (row .way) (runOf row) (row .end) (known-passed row member .0)
 
 -- Labels that do not meet at a side meet at no smaller one.
 apart-right : (places : List Place) (end : End) (told : Option ℕ) {answer : Answer} {side : ℕ} → T (apartTest places end told)

@@ -12,6 +12,7 @@ use lib.ListN.{length, take, length-append}
 use lib.Seq.{append-snoc, take-append-add, take-append-le, take-all}
 use Rattle.placing.specs.rules.Units.{mostSites}
 use Rattle.placing.specs.declared.units.Side.{Side}
+use Rattle.placing.specs.declared.way.Way.{Way}
 use Rattle.plan.specs.declared.refusal.Refusal.{Refusal}
 use Rattle.plan.specs.declared.refusal.Refusal.the-variants.{BadLine}
 use Rattle.plan.specs.rules.Refusal.{Result, refused}
@@ -105,15 +106,16 @@ read-first input read is = ap readList (sym is) ∙ by-length (decLe longestText
     by-length (yes long) = let both = longer-refused input long in both .2 ∙ sym (both .1)
     by-length (no short) = ap readList (take-all longestText input (omega arith))
 
-pub output-first : (input read : List ℕ) → take longestText input ≡ read → outputOf read ≡ outputOf input
+pub output-first : (way : Way) (input read : List ℕ) → take longestText input ≡ read → outputOf way read ≡ outputOf way input
 unfolding outputOf
-output-first input read is = ap (λ (r : Result (List Site)). outputFor sheetOf (toPlace r)) (read-first input read is)
+output-first way input read is = ap (λ (r : Result (List Site)). outputFor (sheetOf way) (toPlace r)) (read-first input read is)
 
 -- So it does at a given side.
-pub output-first-at : (side : Side) (input read : List ℕ) → take longestText input ≡ read → outputAt side read ≡ outputAt side input
+pub output-first-at : (way : Way) (side : Side) (input read : List ℕ) → take longestText input ≡ read
+    → outputAt way side read ≡ outputAt way side input
 unfolding outputAt
-output-first-at side input read is =
-    ap (λ (r : Result (List Site)). outputFor (sheetAt side) (toPlaceAt side (existsAt side) r)) (read-first input read is)
+output-first-at way side input read is =
+    ap (λ (r : Result (List Site)). outputFor (sheetAt way side) (toPlaceAt side (existsAt way side) r)) (read-first input read is)
 
 -- ---- its first refused line
 

@@ -10,6 +10,7 @@ use native.Mathlib.Decide.{ℕ-discrete}
 use native.Mathlib.Omega.{arith}
 use lib.ListN.{length}
 use Rattle.placing.specs.declared.units.Side.{Side}
+use Rattle.placing.specs.declared.way.Way.{Way}
 use Rattle.placing.specs.rules.Choice.{SomeGood}
 use Rattle.placing.specs.rules.Answer.{Answer, isSide, judgedAt, IsAnswer}
 use Rattle.placing.specs.theorems.Answer.{answer-unique}
@@ -40,8 +41,8 @@ refused-one (no-sites empty) (at-line g) = absurd (refused-not-read {sites = []}
 refused-one (no-sites empty) (no-sites other) = refl
 
 -- Two sheets for the same sites are one.
-pub right-one : {sites : List Site} {one other : List ℕ} → RightSheet sites one → RightSheet sites other → one ≡ other
-right-one {sites} a b = a .prints ∙ ap (sheetWith sites) (answer-unique (a .is-answer) (b .is-answer)) ∙ sym (b .prints)
+pub right-one : {way : Way} {sites : List Site} {one other : List ℕ} → RightSheet way sites one → RightSheet way sites other → one ≡ other
+right-one {sites = sites} a b = a .prints ∙ ap (sheetWith sites) (answer-unique (a .is-answer) (b .is-answer)) ∙ sym (b .prints)
 
 -- A text is accepted as one list of sites.
 accepted-same : {text : List ℕ} {one other : List Site} → Accepts text one → Accepts text other → one ≡ other
@@ -50,17 +51,17 @@ accepted-same {one = one} {other = other} a b =
     cc
 
 -- Two outputs for the same text are one.
-pub answered-one : {text one other : List ℕ} → Answered text one → Answered text other → one ≡ other
+pub answered-one : {way : Way} {text one other : List ℕ} → Answered way text one → Answered way text other → one ≡ other
 answered-one (refusal-line r is) (refusal-line s so) = is ∙ ap refusalLine (refused-one r s) ∙ sym so
 answered-one (refusal-line r is) (list-sheet b) = absurd (refused-list-not-accepted r (b .accepts))
 answered-one (list-sheet a) (refusal-line s so) = absurd (refused-list-not-accepted s (a .accepts))
-answered-one {one = one} (list-sheet a) (list-sheet b) =
-    right-one (subst (λ (sites : List Site). RightSheet sites one) (accepted-same (a .accepts) (b .accepts)) (a .right)) (b .right)
+answered-one {way} {one = one} (list-sheet a) (list-sheet b) =
+    right-one (subst (λ (sites : List Site). RightSheet way sites one) (accepted-same (a .accepts) (b .accepts)) (a .right)) (b .right)
 
 -- ---- at a given side
 
 -- A list is refused with one number there, too,
-refused-at-one : {side : Side} {text : List ℕ} {n m : ℕ} → RefusedAt side text n → RefusedAt side text m → n ≡ m
+refused-at-one : {way : Way} {side : Side} {text : List ℕ} {n m : ℕ} → RefusedAt way side text n → RefusedAt way side text m → n ≡ m
 refused-at-one (out-of-range r) (out-of-range s) = refl
 refused-at-one (out-of-range r) (refused-list given s) = absurd (true≢false (sym given ∙ r))
 refused-at-one (out-of-range r) (none-good given sites accepts none) = absurd (true≢false (sym given ∙ r))
@@ -72,63 +73,66 @@ refused-at-one (none-good given sites accepts none) (refused-list given′ s) = 
 refused-at-one (none-good given sites accepts none) (none-good given′ others accepts′ none′) = refl
 
 -- has one sheet,
-pub placed-one : {sites : List Site} {side : Side} {one other : List ℕ} → PlacedSheet sites side one → PlacedSheet sites side other → one ≡ other
-placed-one {sites} a b =
+pub placed-one : {way : Way} {sites : List Site} {side : Side} {one other : List ℕ} → PlacedSheet way sites side one
+    → PlacedSheet way sites side other → one ≡ other
+placed-one {sites = sites} a b =
     a .prints ∙ ap (sheetWith sites) (is-chosen-at (a .is-chosen) ∙ sym (is-chosen-at (b .is-chosen))) ∙ sym (b .prints)
 
 -- and not both.
-refused-no-sheet : {side : Side} {text sheet : List ℕ} {n : ℕ} → RefusedAt side text n → SheetForAt side text sheet → ⊥
+refused-no-sheet : {way : Way} {side : Side} {text sheet : List ℕ} {n : ℕ} → RefusedAt way side text n → SheetForAt way side text sheet → ⊥
 refused-no-sheet (out-of-range r) for = true≢false (sym (for .placed .is-chosen .given) ∙ r)
 refused-no-sheet (refused-list given r) for = refused-list-not-accepted r (for .accepts)
-refused-no-sheet {side} (none-good given sites accepts none) for =
+refused-no-sheet {way} {side} (none-good given sites accepts none) for =
     none
-    (subst (λ (l : List Site). SomeGood (judgedAt side) (placesOf l)) (accepted-same (for .accepts) accepts)
+    (subst (λ (l : List Site). SomeGood way (judgedAt side) (placesOf l)) (accepted-same (for .accepts) accepts)
     (record { choice = for .placed .corners; good = for .placed .is-chosen .first .good }))
 
 -- Nor is it refused where its sites have a good choice at a side that can be given.
-refused-not-chosen : {side : Side} {text : List ℕ} {sites : List Site} {n : ℕ} → RefusedAt side text n → Accepts text sites
-    → isSide side ≡ true → SomeGood (judgedAt side) (placesOf sites) → ⊥
+refused-not-chosen : {way : Way} {side : Side} {text : List ℕ} {sites : List Site} {n : ℕ} → RefusedAt way side text n → Accepts text sites
+    → isSide side ≡ true → SomeGood way (judgedAt side) (placesOf sites) → ⊥
 refused-not-chosen (out-of-range r) accepts given some-good = true≢false (sym given ∙ r)
 refused-not-chosen (refused-list given′ r) accepts given some-good = refused-list-not-accepted r accepts
-refused-not-chosen {side} (none-good given′ others accepts′ none) accepts given some-good =
-    none (subst (λ (l : List Site). SomeGood (judgedAt side) (placesOf l)) (accepted-same accepts accepts′) some-good)
+refused-not-chosen {way} {side} (none-good given′ others accepts′ none) accepts given some-good =
+    none (subst (λ (l : List Site). SomeGood way (judgedAt side) (placesOf l)) (accepted-same accepts accepts′) some-good)
 
--- So two outputs for the same text at the same side are one.
-pub answered-at-one : {side : Side} {text one other : List ℕ} → AnsweredAt side text one → AnsweredAt side text other → one ≡ other
+-- So two outputs for the same text by the same way at the same side are one.
+pub answered-at-one : {way : Way} {side : Side} {text one other : List ℕ} → AnsweredAt way side text one → AnsweredAt way side text other
+    → one ≡ other
 answered-at-one (refusal-at r is) (refusal-at s so) = is ∙ ap refusalLine (refused-at-one r s) ∙ sym so
 answered-at-one (refusal-at r is) (sheet-at b) = absurd (refused-no-sheet r b)
 answered-at-one (sheet-at a) (refusal-at s so) = absurd (refused-no-sheet s a)
-answered-at-one {side} {one = one} (sheet-at a) (sheet-at b) =
-    placed-one (subst (λ (sites : List Site). PlacedSheet sites side one) (accepted-same (a .accepts) (b .accepts)) (a .placed)) (b .placed)
+answered-at-one {way} {side} {one = one} (sheet-at a) (sheet-at b) =
+    placed-one (subst (λ (sites : List Site). PlacedSheet way sites side one) (accepted-same (a .accepts) (b .accepts)) (a .placed)) (b .placed)
 
 -- ---- the list that a sheet carries
 
--- It is the text, and gives the sheet again,
-pub carried-again : {text sheet : List ℕ} → SheetFor text sheet → outputOf text ≡ sheet
-carried-again for = ap outputOf (sym (for .gives-back)) ∙ for .right .again
+-- It is the text, and gives the sheet again when placed the same way,
+pub carried-again : {way : Way} {text sheet : List ℕ} → SheetFor way text sheet → outputOf way text ≡ sheet
+carried-again {way} for = ap (outputOf way) (sym (for .gives-back)) ∙ for .right .again
 
 -- at a given side when it is placed at the side that it prints,
-pub carried-again-at : {side : Side} {text sheet : List ℕ} → SheetForAt side text sheet → (printed : Side) → sideOn sheet ≡ some printed
-    → outputAt printed text ≡ sheet
-carried-again-at for printed is = ap (outputAt printed) (sym (for .gives-back)) ∙ for .placed .again printed is
+pub carried-again-at : {way : Way} {side : Side} {text sheet : List ℕ} → SheetForAt way side text sheet → (printed : Side)
+    → sideOn sheet ≡ some printed → outputAt way printed text ≡ sheet
+carried-again-at {way} for printed is = ap (outputAt way printed) (sym (for .gives-back)) ∙ for .placed .again printed is
 
 -- which is the one that was given;
-pub given-again-at : {side : Side} {text sheet : List ℕ} → SheetForAt side text sheet → outputAt side text ≡ sheet
-given-again-at {side} for = carried-again-at for side (for .placed .side-on)
+pub given-again-at : {way : Way} {side : Side} {text sheet : List ℕ} → SheetForAt way side text sheet → outputAt way side text ≡ sheet
+given-again-at {side = side} for = carried-again-at for side (for .placed .side-on)
 
 -- and it is that of the sites.
-pub carried-sites : {side : Side} {text sheet : List ℕ} (for : SheetForAt side text sheet) → text ≡ listText (for .sites)
+pub carried-sites : {way : Way} {side : Side} {text sheet : List ℕ} (for : SheetForAt way side text sheet) → text ≡ listText (for .sites)
 carried-sites for = sym (for .gives-back) ∙ for .placed .list
 
 -- ---- what a call tells
 
 -- Choosing: the number of its table, and the plan as it came where that is a refusal;
-pub choose-tells : {plan : Plan} {side : Side} {table : List ℕ} {r : Planned} {after : List ℕ} → ChooseTold plan side table r after
-    → Tells (choosingTests side (plan .count) (length table) (existsAt side (sitesIn plan))) (outcomeNumber (r .outcome))
+pub choose-tells : {plan : Plan} {way : Way} {side : Side} {table : List ℕ} {r : Planned} {after : List ℕ}
+    → ChooseTold plan way side table r after
+    → Tells (choosingTests side (plan .count) (length table) (existsAt way side (sitesIn plan))) (outcomeNumber (r .outcome))
     × (1 ≤ outcomeNumber (r .outcome) → r .plan ≡ plan)
-choose-tells {plan} {side} {table} told = (
+choose-tells {plan} {way} {side} {table} told = (
   subst (Tells _) (sym (told .number-is))
-      (table-tells (choosingTests side (plan .count) (length table) (existsAt side (sitesIn plan)))),
+      (table-tells (choosingTests side (plan .count) (length table) (existsAt way side (sitesIn plan)))),
   λ some-number. told .plan-kept (λ zero. omega arith),
 )
 
@@ -141,27 +145,27 @@ told-tells tests told = (
 )
 
 -- Reading a list and placing it, at a given side too, is told in one way: one number and one plan.
-pub list-told-one : {text : List ℕ} {r s : Planned} → ListTold text r → ListTold text s
+pub list-told-one : {way : Way} {text : List ℕ} {r s : Planned} → ListTold way text r → ListTold way text s
     → (outcomeNumber (r .outcome) ≡ outcomeNumber (s .outcome)) × (r .plan ≡ s .plan)
 list-told-one (list-refused r is) (list-refused s so) = (refused-one r s, is ∙ sym so)
 list-told-one (list-refused r is) (list-placed sites accepts zero so) = absurd (refused-list-not-accepted r accepts)
 list-told-one (list-placed sites accepts zero is) (list-refused s so) = absurd (refused-list-not-accepted s accepts)
-list-told-one (list-placed sites accepts zero is) (list-placed others accepts′ zero′ so) =
-    (zero ∙ sym zero′, is ∙ ap placedPlan (accepted-same accepts accepts′) ∙ sym so)
+list-told-one {way} (list-placed sites accepts zero is) (list-placed others accepts′ zero′ so) =
+    (zero ∙ sym zero′, is ∙ ap (placedPlan way) (accepted-same accepts accepts′) ∙ sym so)
 
-pub list-told-at-one : {side : Side} {text : List ℕ} {r s : Planned} → ListToldAt side text r → ListToldAt side text s
+pub list-told-at-one : {way : Way} {side : Side} {text : List ℕ} {r s : Planned} → ListToldAt way side text r → ListToldAt way side text s
     → (outcomeNumber (r .outcome) ≡ outcomeNumber (s .outcome)) × (r .plan ≡ s .plan)
 list-told-at-one (refused-at r is) (refused-at s so) = (refused-at-one r s, is ∙ sym so)
 list-told-at-one (refused-at r is) (placed-at sites corners accepts chosen zero so) =
     absurd (refused-not-chosen r accepts (chosen .given) (record { choice = corners; good = chosen .first .good }))
 list-told-at-one (placed-at sites corners accepts chosen zero is) (refused-at s so) =
     absurd (refused-not-chosen s accepts (chosen .given) (record { choice = corners; good = chosen .first .good }))
-list-told-at-one {side} (placed-at sites corners accepts chosen zero is) (placed-at others corners′ accepts′ chosen′ zero′ so) = (
+list-told-at-one {way} {side} (placed-at sites corners accepts chosen zero is) (placed-at others corners′ accepts′ chosen′ zero′ so) = (
   zero ∙ sym zero′,
   is
-      ∙ ap (placedWith sites) (is-chosen-at chosen)
-      ∙ ap (λ (l : List Site). placedWith l (chosenAt side (placesOf l))) (accepted-same accepts accepts′)
-      ∙ ap (placedWith others) (sym (is-chosen-at chosen′))
+      ∙ ap (placedWith sites way) (is-chosen-at chosen)
+      ∙ ap (λ (l : List Site). placedWith l way (chosenAt way side (placesOf l))) (accepted-same accepts accepts′)
+      ∙ ap (placedWith others way) (sym (is-chosen-at chosen′))
       ∙ sym so,
 )
 
@@ -173,7 +177,8 @@ find-tells plan table r after told =
     (both .0, λ some-number. both .1 (omega (arith, told .number-is, some-number)))
 
 -- Choosing leaves the table cleared with 12 and where it is accepted, and as it came with every other number.
-pub choose-leaves : {plan : Plan} {side : Side} {table : List ℕ} {r : Planned} {after : List ℕ} → ChooseTold plan side table r after
+pub choose-leaves : {plan : Plan} {way : Way} {side : Side} {table : List ℕ} {r : Planned} {after : List ℕ}
+    → ChooseTold plan way side table r after
     → (outcomeNumber (r .outcome) ≡ 0 → after ≡ cleared (plan .count) table)
     × ((outcomeNumber (r .outcome) ≡ 12 → after ≡ cleared (plan .count) table)
     × ((number : ℕ) → outcomeNumber (r .outcome) ≡ number → 1 ≤ number → number < 12 → after ≡ table))

@@ -6,6 +6,7 @@ use mathlib.Core.List.{List, [], _∷_, map}
 use Prim.Native.Nat.{ℕ, _-_, _<_}
 use lib.ListN.{length, getD, take, replicate, length-map}
 use lib.Seq.{take-append-seam, take-at, getD-take}
+use Rattle.placing.specs.declared.way.Way.{Way}
 use Rattle.placing.specs.rules.Units.{nowhere, mostSites}
 use Rattle.placing.specs.rules.Choice.{cornerAt}
 use Rattle.placing.specs.rules.Answer.{Answer, IsChosen}
@@ -42,9 +43,9 @@ unfolding unplacedPlan sitesIn
 sites-unplaced sites = sites-held sites
 
 -- and once it is.
-pub sites-placed : (sites : List Site) (answer : Answer) → sitesIn (placedWith sites answer) ≡ sites
+pub sites-placed : (sites : List Site) (way : Way) (answer : Answer) → sitesIn (placedWith sites way answer) ≡ sites
 unfolding placedWith sitesIn
-sites-placed sites answer = sites-held sites
+sites-placed sites way answer = sites-held sites
 
 -- A plan's count, names and places are those of these sites, which are by the rules.
 pub record Holding (plan : Plan) (sites : List Site) : Type 0 where
@@ -63,8 +64,8 @@ pub valid-holding : {plan : Plan} → Valid plan → Holding plan (sitesIn plan)
 unfolding unplacedPlan placedWith
 valid-holding (is-unplaced sites listed) =
     rw (sites-unplaced sites) (record { listed = listed; count = refl; names = refl; places = refl })
-valid-holding (is-placed sites answer listed some-sites chosen) =
-    rw (sites-placed sites answer) (record { listed = listed; count = refl; names = refl; places = refl })
+valid-holding (is-placed sites way answer listed some-sites chosen) =
+    rw (sites-placed sites way answer) (record { listed = listed; count = refl; names = refl; places = refl })
 
 -- ---- the answer of a placed plan
 
@@ -73,25 +74,27 @@ abbrev pub answerIn : Plan → Answer
 answerIn plan = record { side = plan .side; corners = take (plan .count) (plan .corners) }
 
 -- It is the one that it was placed with.
-pub placed-answer : (sites : List Site) (answer : Answer) → IsChosen (placesOf sites) answer → answerIn (placedWith sites answer) ≡ answer
+pub placed-answer : {way : Way} (sites : List Site) (answer : Answer) → IsChosen way (placesOf sites) answer
+    → answerIn (placedWith sites way answer) ≡ answer
 unfolding placedWith
 placed-answer sites answer chosen =
     ap (λ (corners : List ℕ). record { side = answer .side; corners = corners })
     (take-at (answer .corners) _ (length sites) (chosen-corners chosen .one-each ∙ length-map sites placeOf))
 
--- A valid plan that is placed has the first good choice at its side,
-pub valid-chosen : {plan : Plan} → Valid plan → plan .placed ≡ true → IsChosen (placesOf (sitesIn plan)) (answerIn plan)
-unfolding unplacedPlan
+-- A valid plan that is placed has the first good choice at its side by its way,
+pub valid-chosen : {plan : Plan} → Valid plan → plan .placed ≡ true → IsChosen (plan .way) (placesOf (sitesIn plan)) (answerIn plan)
+unfolding unplacedPlan placedWith
 valid-chosen (is-unplaced sites listed) is-so = absurd (false≢true is-so)
-valid-chosen (is-placed sites answer listed some-sites chosen) is-so =
-    rw (sites-placed sites answer, placed-answer sites answer chosen) chosen
+valid-chosen (is-placed sites way answer listed some-sites chosen) is-so =
+    rw (sites-placed sites way answer, placed-answer sites answer chosen) chosen
 
 -- which is the one of the rules;
 pub valid-answer : {plan : Plan} → Valid plan → plan .placed ≡ true → answerIn plan ≡ answerFor plan
 valid-answer valid is-so = is-chosen-at (valid-chosen valid is-so)
 
-pub valid-for : {plan : Plan} → Valid plan → plan .placed ≡ true → IsChosen (placesOf (sitesIn plan)) (answerFor plan)
-valid-for {plan} valid is-so = subst (IsChosen (placesOf (sitesIn plan))) (valid-answer valid is-so) (valid-chosen valid is-so)
+pub valid-for : {plan : Plan} → Valid plan → plan .placed ≡ true → IsChosen (plan .way) (placesOf (sitesIn plan)) (answerFor plan)
+valid-for {plan} valid is-so =
+    subst (IsChosen (plan .way) (placesOf (sitesIn plan))) (valid-answer valid is-so) (valid-chosen valid is-so)
 
 -- so is the corner of each site.
 pub valid-corner : {plan : Plan} → Valid plan → plan .placed ≡ true → (i : ℕ) → i < plan .count

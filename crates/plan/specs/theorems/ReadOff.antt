@@ -1,4 +1,4 @@
--- What is read off a sheet is what was written on it: demand 2's list, demand 3's number and spots, and demand 3 itself.
+-- What is read off a sheet is what was written on it: demand 2's list, demand 3's number and spots, and what each way guarantees of them.
 -- Assumes nothing.
 use mathlib.Core.Bool.{Bool, true, false}
 use mathlib.Core.Path.{_≡_, refl, sym, ap, _∙_, subst}
@@ -10,18 +10,23 @@ use lib.ListN.{length, getD, drop}
 use Rattle.placing.specs.declared.units.Place.{Place}
 use Rattle.placing.specs.declared.units.Side.{Side}
 use Rattle.placing.specs.declared.units.Side.the-variants.{Number, Free}
+use Rattle.placing.specs.declared.way.Way.{Way}
+use Rattle.placing.specs.declared.way.Way.the-variants.{Usual, Above}
 use Rattle.placing.specs.rules.Units.{along, X, Y}
-use Rattle.placing.specs.rules.Choice.{Corners, MeetingPair}
-use Rattle.placing.specs.rules.Answer.{Answer, sideNumber, IsAnswer, is-free, is-number, IsChosen}
+use Rattle.placing.specs.rules.Choice.{Corners, AboveCorners, MeetingPair, Good}
+use Rattle.placing.specs.rules.Answer.{Answer, judgedAt, sideNumber, numbered, IsAnswer, is-free, is-number, IsChosen}
 use Rattle.placing.specs.deciding.Answer.{isSome}
+use Rattle.placing.specs.theorems.Choice.{free-apart}
 use Rattle.placing.specs.theorems.Given.{chosen-found, is-chosen-at}
 use Rattle.placing.specs.theorems.FactorTwo.{answer-twice}
+use Rattle.placing.specs.theorems.ExactSide.{answer-exact}
 use Rattle.plan.specs.rules.Text.{tab, fieldsOf, Without, numberIn, digitsAfter, decimal, sameBytes}
 use Rattle.plan.specs.rules.List.{Site, placesOf, wantedIn, Listed, ByRules, listLine, listText}
 use Rattle.plan.specs.rules.Sheet.{sideWord, freeWord, sideText, numberedSide, sideIn, sideLine, siteLine, sheetWith, sideOnFields, sideOn, numberPrinted, numberOn, spotsOnLines, spotsOn, carriedLines, carried, joined, butLast}
 use Rattle.plan.specs.deciding.Output.{sheetOf, sheetAt, outputOf, outputAt}
-use Rattle.plan.specs.Demands.{NoRival}
+use Rattle.plan.specs.Demands.{Guarantee}
 use Rattle.plan.specs.theorems.Text.{parted-one, parted-more, same-bytes-same, same-bytes-refl, number-decimal, decimal-number, decimal-without, name-without}
+use Rattle.plan.specs.theorems.Sites.{listed-in-range}
 use Rattle.plan.specs.theorems.Reading.{list-read}
 use Rattle.plan.specs.theorems.Sheet.{lineOfEach, Lined, no-line, one-more, chosen-lined, answer-listed, side-without, sheet-lines, output-sheet, output-sheet-at}
 
@@ -76,20 +81,21 @@ pub sheet-carries : {sites : List Site} (a : Answer) → Lined sites (a .corners
 sheet-carries a each =
     ap (λ (lines : List (List ℕ)). carriedLines (drop 1 lines)) (sheet-lines a each) ∙ lines-carried each
 
--- That list, read again, placed and written, gives the same bytes,
-pub sheet-again : (sites : List Site) → Listed sites → 1 ≤ length sites → outputOf (carried (sheetOf sites)) ≡ sheetOf sites
+-- That list, read again, placed the same way and written, gives the same bytes,
+pub sheet-again : (way : Way) (sites : List Site) → Listed sites → 1 ≤ length sites
+    → outputOf way (carried (sheetOf way sites)) ≡ sheetOf way sites
 unfolding sheetOf
-sheet-again sites listed nonempty =
-    ap outputOf (sheet-carries _ (chosen-lined sites listed (answer-listed sites listed)))
-    ∙ output-sheet (listText sites) sites (list-read sites listed) nonempty
+sheet-again way sites listed nonempty =
+    ap (outputOf way) (sheet-carries _ (chosen-lined sites listed (answer-listed way sites listed)))
+    ∙ output-sheet way (listText sites) sites (list-read sites listed) nonempty
 
 -- at a given side when it is placed there again.
-pub sheet-again-at : {a : Answer} (sites : List Site) → Listed sites → 1 ≤ length sites → IsChosen (placesOf sites) a
-    → outputAt (a .side) (carried (sheetWith sites a)) ≡ sheetWith sites a
+pub sheet-again-at : {way : Way} {a : Answer} (sites : List Site) → Listed sites → 1 ≤ length sites → IsChosen way (placesOf sites) a
+    → outputAt way (a .side) (carried (sheetWith sites a)) ≡ sheetWith sites a
 unfolding sheetAt
-sheet-again-at {a} sites listed nonempty chosen =
-    ap (outputAt (a .side)) (sheet-carries a (chosen-lined sites listed chosen))
-    ∙ output-sheet-at (a .side) (listText sites) sites (list-read sites listed) (chosen .given) nonempty (ap isSome (chosen-found chosen))
+sheet-again-at {way} {a} sites listed nonempty chosen =
+    ap (outputAt way (a .side)) (sheet-carries a (chosen-lined sites listed chosen))
+    ∙ output-sheet-at way (a .side) (listText sites) sites (list-read sites listed) (chosen .given) nonempty (ap isSome (chosen-found chosen))
     ∙ ap (sheetWith sites) (sym (is-chosen-at chosen))
 
 -- ---- the side, the number and the spots
@@ -145,21 +151,45 @@ lines-spots (one-more {site} {sites} {corner} {corners} rules c rest) = rw (line
 pub spots-on-sheet : {sites : List Site} (a : Answer) → Lined sites (a .corners) → spotsOn (sheetWith sites a) ≡ placesOf sites
 spots-on-sheet a each = ap (λ (lines : List (List ℕ)). spotsOnLines (drop 1 lines)) (sheet-lines a each) ∙ lines-spots each
 
--- ---- demand 3
+-- ---- free
 
--- Above twice the number of an answer's side every choice has two labels that meet.
-rivals : {ps : List Place} {a : Answer} → IsAnswer ps a → (number p q : ℕ) → sideNumber (a .side) ≡ some number → 1 ≤ q → 2 * number * q < p
-    → (corners : List ℕ) → Corners (length ps) corners → MeetingPair p q ps corners
-rivals (is-free first) number p q is one more = let z : _≡_ {A = ℕ} 0 1 = cc in absurd (omega arith)
-rivals (is-number {h} none-free least most first above) number p q is one more =
-    let same : number ≡ h = cc in
-    answer-twice (is-number none-free least most first above) p q one (subst (λ (n : ℕ). 2 * n * q < p) same more)
+-- Where the side is free, the labels on a sheet meet at no side.
+pub labels-apart : {way : Way} {a : Answer} (sites : List Site) → Listed sites → IsChosen way (placesOf sites) a → a .side ≡ Free
+    → (p q : ℕ) → MeetingPair p q (spotsOn (sheetWith sites a)) (a .corners) → ⊥
+labels-apart {way} {a} sites listed chosen is p q =
+    let good = subst (λ (side : Side). Good way (judgedAt side) (placesOf sites) (a .corners)) is (chosen .first .good) in
+    rw (spots-on-sheet a (chosen-lined sites listed chosen)) (free-apart (listed-in-range listed) good p q)
 
--- Demand 3: a sheet with the answer has no rival without two labels that meet.
-pub no-rival : {a : Answer} {sites : List Site} → IsAnswer (placesOf sites) a → Lined sites (a .corners) → NoRival (sheetWith sites a)
-no-rival {a} is-answer each =
+-- ---- demand 3, and what stands for it above
+
+-- An answer whose side has a number is that number's.
+numbered-answer : {way : Way} {ps : List Place} {a : Answer} {number : ℕ} → IsAnswer way ps a → sideNumber (a .side) ≡ some number
+    → IsAnswer way ps (numbered number (a .corners))
+numbered-answer (is-free first) is = let z : _≡_ {A = ℕ} 0 1 = cc in absurd (omega arith)
+numbered-answer {way} {ps} {number = number} (is-number {h} {cs} none-free least most first above) is =
+    let same : h ≡ number = cc in
+    subst (λ (n : ℕ). IsAnswer way ps (numbered n cs)) same (is-number none-free least most first above)
+
+-- What holds of the places for every such answer holds of the number and the spots on its sheet.
+of-sheet : {way : Way} {a : Answer} {sites : List Site} {number : ℕ} (Q : ℕ → List Place → Type 0)
+    → ((h : ℕ) (cs : List ℕ) → IsAnswer way (placesOf sites) (numbered h cs) → Q h (placesOf sites)) → IsAnswer way (placesOf sites) a
+    → Lined sites (a .corners) → numberOn (sheetWith sites a) ≡ some number → Q number (spotsOn (sheetWith sites a))
+of-sheet {a = a} {number = number} Q holds is-answer each is =
+    subst (Q number) (sym (spots-on-sheet a each)) (holds number (a .corners) (numbered-answer is-answer (sym (number-read a each) ∙ is)))
+
+-- A sheet with the answer has what its way guarantees: above twice its number by the usual way, above the number itself with corners 1
+-- and 2, every rival has two labels that meet.
+pub guaranteed : (way : Way) {a : Answer} {sites : List Site} → IsAnswer way (placesOf sites) a → Lined sites (a .corners)
+    → Guarantee way (sheetWith sites a)
+guaranteed Usual is-answer each =
     record {
-      rivals-meet = λ number p q is one more.
-          subst (λ (spots : List Place). (corners : List ℕ) → Corners (length spots) corners → MeetingPair p q spots corners)
-          (sym (spots-on-sheet a each)) (rivals is-answer number p q (sym (number-read a each) ∙ is) one more);
+      rivals-meet = λ number p q is.
+          of-sheet (λ h ps. 1 ≤ q → 2 * h * q < p → (corners : List ℕ) → Corners (length ps) corners → MeetingPair p q ps corners)
+          (λ h cs answer. answer-twice answer p q) is-answer each is;
+    }
+guaranteed Above is-answer each =
+    record {
+      rivals-meet = λ number p q is some-q.
+          of-sheet (λ h ps. h * q < p → (corners : List ℕ) → AboveCorners (length ps) corners → MeetingPair p q ps corners)
+          (λ h cs answer. answer-exact answer p q) is-answer each is;
     }

@@ -1,4 +1,5 @@
--- Demand 3 in the picture: whoever takes a side above twice the number that a sheet prints draws two labels that cover a common point.
+-- Demand 3 in the picture: whoever takes a side above twice the number that a sheet prints draws two labels that cover a common point; with
+-- corners 1 and 2 on a sheet above, so does whoever takes a side above the number itself.
 -- Assumes nothing.
 use mathlib.Core.Path.{_≡_, _∙_, ap, subst}
 use mathlib.Core.List.{List}
@@ -9,16 +10,18 @@ use native.Mathlib.Omega.{arith}
 use lib.ListN.{length, take}
 use Rattle.placing.specs.declared.units.Place.{Place}
 use Rattle.placing.specs.declared.units.Side.{Side}
+use Rattle.placing.specs.declared.way.Way.{Way}
+use Rattle.placing.specs.declared.way.Way.the-variants.{Usual, Above}
 use Rattle.placing.specs.rules.Units.{siteAt, Distinct}
 use Rattle.placing.specs.rules.Label.{Point, Covers}
-use Rattle.placing.specs.rules.Choice.{cornerAt, Corners, MeetingPair}
+use Rattle.placing.specs.rules.Choice.{cornerAt, Corners, AboveCorners, MeetingPair}
 use Rattle.placing.specs.rules.Answer.{Answer, numbered, sideNumber, IsAnswer, IsChosen}
 use Rattle.placing.specs.theorems.Answer.{answer-unique}
 use Rattle.placing.specs.theorems.CommonPoint.{meet-exactly}
 use Rattle.plan.specs.rules.List.{Site, Listed, placesOf}
 use Rattle.plan.specs.rules.Sheet.{sideOn, numberOn, spotsOn}
 use Rattle.plan.specs.declared.plan.Written.the-variants.{Bytes}
-use Rattle.plan.specs.Demands.{NoRival, RightSheet, PrintsFound, PlacedSheet, SheetWritten}
+use Rattle.plan.specs.Demands.{NoRival, NoRivalAbove, Guarantee, RightSheet, PrintsFound, PlacedSheet, SheetWritten}
 
 -- The labels of some two of these places, at these corners and the side p/q, cover a common point.
 pub record CommonPoint (p q : ℕ) (ps : List Place) (cs : List ℕ) : Type 0 where
@@ -54,36 +57,56 @@ pub rivals-common : {sheet : List ℕ} → NoRival sheet → Distinct (spotsOn s
 rivals-common no-rival spots number p q printed some-q above corners each =
     meeting-common (omega arith) some-q spots (no-rival .rivals-meet number p q printed some-q above corners each)
 
--- The same from the answer's own number: over a right sheet for some sites, whoever takes a side above twice the number of their answer
--- draws two labels that cover a common point.
-pub right-common : {sites : List Site} {sheet : List ℕ} → Listed sites → RightSheet sites sheet → {h : ℕ} {cs : List ℕ}
-    → IsAnswer (placesOf sites) (numbered h cs) → (p q : ℕ) → 1 ≤ q → 2 * h * q < p → (corners : List ℕ)
-    → Corners (length (placesOf sites)) corners → CommonPoint p q (placesOf sites) corners
-right-common {sheet} listed right {h} is p q some-q above corners =
+-- The same above, for every p/q above the number and corners 1 and 2.
+pub rivals-common-above : {sheet : List ℕ} → NoRivalAbove sheet → Distinct (spotsOn sheet) → (number p q : ℕ) → numberOn sheet ≡ some number
+    → 1 ≤ q → number * q < p → (corners : List ℕ) → AboveCorners (length (spotsOn sheet)) corners → CommonPoint p q (spotsOn sheet) corners
+rivals-common-above no-rival spots number p q printed some-q above corners each =
+    meeting-common (omega arith) some-q spots (no-rival .rivals-meet number p q printed some-q above corners each)
+
+-- A rival of n lines by each way: its side p/q is past what the way guarantees of a number h, and these are its corners.
+abbrev pub Rival : Way → (h p q n : ℕ) → List ℕ → Type 0
+Rival Usual h p q n corners = (2 * h * q < p) × Corners n corners
+Rival Above h p q n corners = (h * q < p) × AboveCorners n corners
+
+guaranteed-common : (way : Way) (sheet : List ℕ) → Guarantee way sheet → Distinct (spotsOn sheet) → (number p q : ℕ)
+    → numberOn sheet ≡ some number → 1 ≤ q → (corners : List ℕ) → Rival way number p q (length (spotsOn sheet)) corners
+    → CommonPoint p q (spotsOn sheet) corners
+guaranteed-common Usual sheet guarantee spots number p q printed some-q corners rival =
+    rivals-common guarantee spots number p q printed some-q (rival .0) corners (rival .1)
+guaranteed-common Above sheet guarantee spots number p q printed some-q corners rival =
+    rivals-common-above guarantee spots number p q printed some-q (rival .0) corners (rival .1)
+
+-- The same from the answer's own number: over a right sheet for some sites, every rival of the number of their answer draws two labels that
+-- cover a common point.
+pub right-common : {way : Way} {sites : List Site} {sheet : List ℕ} → Listed sites → RightSheet way sites sheet → {h : ℕ} {cs : List ℕ}
+    → IsAnswer way (placesOf sites) (numbered h cs) → (p q : ℕ) → 1 ≤ q → (corners : List ℕ)
+    → Rival way h p q (length (placesOf sites)) corners → CommonPoint p q (placesOf sites) corners
+right-common {way} {sheet = sheet} listed right {h} is p q some-q corners =
     let printed : numberOn sheet ≡ some h = right .number ∙ ap (λ (a : Answer). sideNumber (a .side)) (answer-unique (right .is-answer) is) in
     let spots : Distinct (spotsOn sheet) = rw (right .spots) (listed .places-distinct) in
-    subst (λ (ps : List Place). Corners (length ps) corners → CommonPoint p q ps corners) (right .spots)
-    (rivals-common (right .no-rival) spots h p q printed some-q above corners)
+    subst (λ (ps : List Place). Rival way h p q (length ps) corners → CommonPoint p q ps corners) (right .spots)
+    (guaranteed-common way sheet (right .guarantee) spots h p q printed some-q corners)
 
 -- The same over a sheet at whatever side, where it prints the side found for its spots.
-pub placed-common : {sites : List Site} {side : Side} {sheet : List ℕ} → Listed sites → PlacedSheet sites side sheet → PrintsFound sheet
-    → {h : ℕ} {cs : List ℕ} → IsAnswer (placesOf sites) (numbered h cs) → (p q : ℕ) → 1 ≤ q → 2 * h * q < p → (corners : List ℕ)
-    → Corners (length (placesOf sites)) corners → CommonPoint p q (placesOf sites) corners
+pub placed-common : {way : Way} {sites : List Site} {side : Side} {sheet : List ℕ} → Listed sites → PlacedSheet way sites side sheet
+    → PrintsFound way sheet → {h : ℕ} {cs : List ℕ} → IsAnswer way (placesOf sites) (numbered h cs) → (p q : ℕ) → 1 ≤ q
+    → (corners : List ℕ) → Rival way h p q (length (placesOf sites)) corners → CommonPoint p q (placesOf sites) corners
 placed-common listed placed prints = right-common listed (placed .at-found prints)
 
 -- The condition is that the side on the first line is the one found for the spots below it, and nothing more: with a field more in
 -- `PrintsFound` this would not be enough.
-pub placed-right : {sites : List Site} {side : Side} {sheet : List ℕ} → PlacedSheet sites side sheet → {found : Answer}
-    → IsAnswer (spotsOn sheet) found → sideOn sheet ≡ some (found .side) → RightSheet sites sheet
+pub placed-right : {way : Way} {sites : List Site} {side : Side} {sheet : List ℕ} → PlacedSheet way sites side sheet → {found : Answer}
+    → IsAnswer way (spotsOn sheet) found → sideOn sheet ≡ some (found .side) → RightSheet way sites sheet
 placed-right placed {found} is printed = placed .at-found (record { found = found; is-answer = is; printed = printed })
 
 -- The corners on a sheet are the first good choice for the spots that are read off it.
-pub placed-on-spots : {sites : List Site} {side : Side} {sheet : List ℕ} (placed : PlacedSheet sites side sheet)
-    → IsChosen (spotsOn sheet) (record { side = side; corners = placed .corners })
+pub placed-on-spots : {way : Way} {sites : List Site} {side : Side} {sheet : List ℕ} (placed : PlacedSheet way sites side sheet)
+    → IsChosen way (spotsOn sheet) (record { side = side; corners = placed .corners })
 placed-on-spots placed = rw (placed .spots) (placed .is-chosen)
 
 -- What an accepted writing leaves in the buffer is such a sheet.
-pub written-common : {sites : List Site} {side : Side} (n : ℕ) (buffer : List ℕ) → Listed sites → SheetWritten sites side (Bytes n) buffer
-    → PrintsFound (take n buffer) → {h : ℕ} {cs : List ℕ} → IsAnswer (placesOf sites) (numbered h cs) → (p q : ℕ) → 1 ≤ q → 2 * h * q < p
-    → (corners : List ℕ) → Corners (length (placesOf sites)) corners → CommonPoint p q (placesOf sites) corners
+pub written-common : {way : Way} {sites : List Site} {side : Side} (n : ℕ) (buffer : List ℕ) → Listed sites
+    → SheetWritten way sites side (Bytes n) buffer → PrintsFound way (take n buffer) → {h : ℕ} {cs : List ℕ}
+    → IsAnswer way (placesOf sites) (numbered h cs) → (p q : ℕ) → 1 ≤ q → (corners : List ℕ)
+    → Rival way h p q (length (placesOf sites)) corners → CommonPoint p q (placesOf sites) corners
 written-common n buffer listed written prints = placed-common listed written prints

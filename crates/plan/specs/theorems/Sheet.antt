@@ -10,9 +10,12 @@ use lib.ListN.{length, getD, length-append, length-map}
 use Rattle.placing.specs.declared.units.Place.{Place}
 use Rattle.placing.specs.declared.units.Side.{Side}
 use Rattle.placing.specs.declared.units.Side.the-variants.{Number, Free}
+use Rattle.placing.specs.declared.way.Way.{Way}
+use Rattle.placing.specs.declared.way.Way.the-variants.{Usual, Above}
 use Rattle.placing.specs.rules.Units.{freeSide, along, X, Y}
 use Rattle.placing.specs.rules.Corner.{Corner}
-use Rattle.placing.specs.rules.Choice.{Corners, cornerAt, Good}
+use Rattle.placing.specs.rules.Crowd.{Crowded}
+use Rattle.placing.specs.rules.Choice.{Corners, cornerAt, Allowed, uncrowded, at-most-two, Good}
 use Rattle.placing.specs.rules.Answer.{Answer, isSide, IsAnswer, is-free, is-number, IsChosen}
 use Rattle.placing.specs.deciding.Answer.{answerOf}
 use Rattle.placing.specs.theorems.Answer.{answer-is}
@@ -31,7 +34,7 @@ use Rattle.plan.specs.theorems.Reading.{line-without}
 -- ---- what the side and the corners on a sheet are
 
 -- What is chosen at a side is one corner for each site.
-pub chosen-corners : {ps : List Place} {a : Answer} → IsChosen ps a → Corners (length ps) (a .corners)
+pub chosen-corners : {way : Way} {ps : List Place} {a : Answer} → IsChosen way ps a → Corners (length ps) (a .corners)
 chosen-corners chosen = chosen .first .good .corners
 
 -- A side that can be given is written in at most five bytes,
@@ -50,21 +53,25 @@ side-without b below (Number side) = decimal-without (side .0) b below
 side-without b below Free = (omega arith, (omega arith, (omega arith, (omega arith, tt))))
 
 -- A label that is alone is good at every side.
-alone-good : (h : ℕ) (p : Place) → Good h (p ∷ []) (1 ∷ [])
-alone-good h p =
+alone-good : (way : Way) (h : ℕ) (p : Place) → Good way h (p ∷ []) (1 ∷ [])
+alone-good way h p =
     record {
       corners = record { one-each = refl; corner = λ i listed. rw (first i listed) (record { least = omega arith; most = omega arith }) };
-      uncrowded = λ i listed crowded. crowded .different (omega (arith, crowded .listed));
+      allowed = λ i listed. rw (first i listed) (allowed way);
       apart = λ pair. omega (arith, pair .first-listed, pair .second-listed, pair .different);
     }
   where
     first : (i : ℕ) → i < 1 → i ≡ 0
     first i listed = omega arith
 
+    allowed : (way : Way) → Allowed way h (p ∷ []) 0 1
+    allowed Usual = uncrowded (λ (crowded : Crowded h (p ∷ []) 0 1). crowded .different (omega (arith, crowded .listed)))
+    allowed Above = at-most-two {c = 1} (omega arith)
+
 -- So the side of one site is the word free.
-alone-free : {p : Place} {a : Answer} → IsAnswer (p ∷ []) a → 4 ≤ length (sideText (a .side))
+alone-free : {way : Way} {p : Place} {a : Answer} → IsAnswer way (p ∷ []) a → 4 ≤ length (sideText (a .side))
 alone-free (is-free first) = omega arith
-alone-free {p} (is-number none-free least most first above) = absurd (none-free (1 ∷ []) (alone-good freeSide p))
+alone-free {way} {p} (is-number none-free least most first above) = absurd (none-free (1 ∷ []) (alone-good way freeSide p))
 
 -- ---- the lines of a sheet
 
@@ -86,8 +93,8 @@ lined (site ∷ sites) (c ∷ corners) same rules corner =
     (lined sites corners (omega arith) (λ i l. rules (suc i) (omega arith)) (λ i l. corner (suc i) (omega arith)))
 
 -- The sites of a plan with the corners that are chosen for them.
-pub chosen-lined : {a : Answer} (sites : List Site) → Listed sites → IsChosen (placesOf sites) a → Lined sites (a .corners)
-chosen-lined {a} sites listed chosen =
+pub chosen-lined : {way : Way} {a : Answer} (sites : List Site) → Listed sites → IsChosen way (placesOf sites) a → Lined sites (a .corners)
+chosen-lined {a = a} sites listed chosen =
     lined sites (a .corners) (corners .one-each ∙ length-map sites placeOf) (listed .by-rules)
     (λ i below. corners .corner i (omega (arith, length-map sites placeOf)))
   where
@@ -95,8 +102,8 @@ chosen-lined {a} sites listed chosen =
     corners = chosen-corners chosen
 
 -- Those of the answer are.
-pub answer-listed : (sites : List Site) → Listed sites → IsChosen (placesOf sites) (answerOf (placesOf sites))
-answer-listed sites listed = answer-chosen (answer-is (placesOf sites) (listed .places-distinct))
+pub answer-listed : (way : Way) (sites : List Site) → Listed sites → IsChosen way (placesOf sites) (answerOf way (placesOf sites))
+answer-listed way sites listed = answer-chosen (answer-is way (placesOf sites) (listed .places-distinct))
 
 -- One line for each site.
 unfoldable pub lineOfEach : List Site → List ℕ → List (List ℕ)
@@ -171,33 +178,34 @@ lines-shortest (one-more {site} {sites} {corner} {corners} rules c rest) =
     omega (arith, length-append (siteLine site corner) (lineFeed ∷ siteLines sites corners))
 
 -- The longest sheet.
-pub sheet-longest : {a : Answer} (sites : List Site) → Listed sites → IsChosen (placesOf sites) a → length (sheetWith sites a) ≤ longestSheet
+pub sheet-longest : {way : Way} {a : Answer} (sites : List Site) → Listed sites → IsChosen way (placesOf sites) a
+    → length (sheetWith sites a) ≤ longestSheet
 unfolding sheetWith
-sheet-longest {a} sites listed chosen =
+sheet-longest {a = a} sites listed chosen =
     let side = side-short (a .side) (chosen .given) in
     let lines = lines-longest (chosen-lined sites listed chosen) in
     simp length-append (omega (arith, listed .few))
 
 -- The shortest.
-pub sheet-shortest-at : {a : Answer} (sites : List Site) → Listed sites → 1 ≤ length sites → IsChosen (placesOf sites) a
+pub sheet-shortest-at : {way : Way} {a : Answer} (sites : List Site) → Listed sites → 1 ≤ length sites → IsChosen way (placesOf sites) a
     → shortestSheetAt ≤ length (sheetWith sites a)
 unfolding sheetWith
-sheet-shortest-at {a} sites listed nonempty chosen =
+sheet-shortest-at {a = a} sites listed nonempty chosen =
     let side = side-some (a .side) in
     let lines = lines-shortest (chosen-lined sites listed chosen) in
     simp length-append (omega arith)
 
 -- At the side found, one site is free, and more sites have more lines.
-pub sheet-shortest : (sites : List Site) → Listed sites → 1 ≤ length sites → shortestSheet ≤ length (sheetOf sites)
+pub sheet-shortest : (way : Way) (sites : List Site) → Listed sites → 1 ≤ length sites → shortestSheet ≤ length (sheetOf way sites)
 unfolding sheetOf sheetWith
-sheet-shortest [] listed nonempty = absurd (omega arith)
-sheet-shortest (site ∷ []) listed nonempty =
-    let side = alone-free (answer-is (placesOf (site ∷ [])) (listed .places-distinct)) in
-    let lines = lines-shortest (chosen-lined (site ∷ []) listed (answer-listed (site ∷ []) listed)) in
+sheet-shortest way [] listed nonempty = absurd (omega arith)
+sheet-shortest way (site ∷ []) listed nonempty =
+    let side = alone-free (answer-is way (placesOf (site ∷ [])) (listed .places-distinct)) in
+    let lines = lines-shortest (chosen-lined (site ∷ []) listed (answer-listed way (site ∷ []) listed)) in
     simp length-append (omega arith)
-sheet-shortest (site ∷ next ∷ sites) listed nonempty =
-    let side = side-some (answerOf (placesOf (site ∷ next ∷ sites)) .side) in
-    let lines = lines-shortest (chosen-lined (site ∷ next ∷ sites) listed (answer-listed (site ∷ next ∷ sites) listed)) in
+sheet-shortest way (site ∷ next ∷ sites) listed nonempty =
+    let side = side-some (answerOf way (placesOf (site ∷ next ∷ sites)) .side) in
+    let lines = lines-shortest (chosen-lined (site ∷ next ∷ sites) listed (answer-listed way (site ∷ next ∷ sites) listed)) in
     simp length-append (omega arith)
 
 -- ---- the output
@@ -207,19 +215,20 @@ pub some-to-place : (sites : List Site) → 1 ≤ length sites → toPlace (acce
 some-to-place sites nonempty = rw (ne-eqb (length sites) 0 (λ zero. omega arith))
 
 -- So the output for a text that is read as some sites is their sheet.
-pub output-sheet : (text : List ℕ) (sites : List Site) → readList text ≡ accepted sites → 1 ≤ length sites → outputOf text ≡ sheetOf sites
+pub output-sheet : (way : Way) (text : List ℕ) (sites : List Site) → readList text ≡ accepted sites → 1 ≤ length sites
+    → outputOf way text ≡ sheetOf way sites
 unfolding outputOf
-output-sheet text sites read nonempty =
-    ap (λ (r : Result (List Site)). outputFor sheetOf (toPlace r)) read ∙ ap (outputFor sheetOf) (some-to-place sites nonempty)
+output-sheet way text sites read nonempty =
+    ap (λ (r : Result (List Site)). outputFor (sheetOf way) (toPlace r)) read ∙ ap (outputFor (sheetOf way)) (some-to-place sites nonempty)
 
 -- At a given side that has a good choice likewise.
-pub some-to-place-at : (side : Side) (sites : List Site) → isSide side ≡ true → 1 ≤ length sites → existsAt side sites ≡ true
-    → toPlaceAt side (existsAt side) (accepted sites) ≡ accepted sites
-some-to-place-at side sites given nonempty there = rw (given, ne-eqb (length sites) 0 (λ zero. omega arith), there)
+pub some-to-place-at : (way : Way) (side : Side) (sites : List Site) → isSide side ≡ true → 1 ≤ length sites
+    → existsAt way side sites ≡ true → toPlaceAt side (existsAt way side) (accepted sites) ≡ accepted sites
+some-to-place-at way side sites given nonempty there = rw (given, ne-eqb (length sites) 0 (λ zero. omega arith), there)
 
-pub output-sheet-at : (side : Side) (text : List ℕ) (sites : List Site) → readList text ≡ accepted sites → isSide side ≡ true → 1 ≤ length sites
-    → existsAt side sites ≡ true → outputAt side text ≡ sheetAt side sites
+pub output-sheet-at : (way : Way) (side : Side) (text : List ℕ) (sites : List Site) → readList text ≡ accepted sites → isSide side ≡ true
+    → 1 ≤ length sites → existsAt way side sites ≡ true → outputAt way side text ≡ sheetAt way side sites
 unfolding outputAt
-output-sheet-at side text sites read given nonempty there =
-    ap (λ (r : Result (List Site)). outputFor (sheetAt side) (toPlaceAt side (existsAt side) r)) read
-    ∙ ap (outputFor (sheetAt side)) (some-to-place-at side sites given nonempty there)
+output-sheet-at way side text sites read given nonempty there =
+    ap (λ (r : Result (List Site)). outputFor (sheetAt way side) (toPlaceAt side (existsAt way side) r)) read
+    ∙ ap (outputFor (sheetAt way side)) (some-to-place-at way side sites given nonempty there)

@@ -33,7 +33,7 @@ returns c =
     let tested = c .before in
     let start = tested .before .before .before in
     let outside = sym (tested .before .is-side .ensures) ∙ not-true (tested .before .is-side .result) (tested .if1 .taken) in
-    choose-refuses (start .pre) (start .args .side) (now (start .args .table)) (outside-first (start .args .side) (start .args .plan .count) (length (now (start .args .table))) outside) (c .refuse .ensures)
+    choose-refuses (start .pre) (start .args .way) (start .args .side) (now (start .args .table)) (outside-first (start .args .side) (start .args .plan .count) (length (now (start .args .table))) outside) (c .refuse .ensures)
 
 unready-requires : tie.Need-unready-requires
 unready-requires c κs =
@@ -50,7 +50,7 @@ returns-2 c =
     let known = c .before .before in
     let call = known .before .before in
     let start = call .before .before .before .before in
-    choose-refuses (start .pre) (start .args .side) (now (start .args .table))
+    choose-refuses (start .pre) (start .args .way) (start .args .side) (now (start .args .table))
     (given-first (start .args .side) (start .args .plan .count) (length (now (start .args .table))) (given (call .before)) (outcome-refused _ (sym (call .unready .ensures) ∙ known .failed .given .1)))
     (c .refuse2 .ensures)
 
@@ -79,9 +79,9 @@ returns-3 c =
     let call = told .before .before in
     let start = call .before .before .before .before in
     let holding = valid-holding (start .pre) in
-    let none-good = sym (holding-exists holding (start .args .side) _ (chosen .choose-corners .ensures .0))
+    let none-good = sym (holding-exists holding (start .args .way) (start .args .side) _ (chosen .choose-corners .ensures .0))
     ∙ not-true (chosen .choose-corners .result .exists) (c .before .if2 .taken) in
-    choose-none (start .pre) (start .args .side) (now (start .args .table))
+    choose-none (start .pre) (start .args .way) (start .args .side) (now (start .args .table))
     (given-first (start .args .side) (start .args .plan .count) (length (now (start .args .table))) (given (call .before)) (outcome-done _ (sym (call .unready .ensures) ∙ told .enum-told .given .1)))
     (chosen .choose-corners .ensures .1) none-good (c .refuse3 .ensures)
 
@@ -99,13 +99,13 @@ returns-4 c =
     let start = call .before .before .before .before in
     let holding = valid-holding (start .pre) in
     let ready = outcome-done _ (sym (call .unready .ensures) ∙ told .enum-told .given .1) in
-    let there = sym (holding-exists holding (start .args .side) _ (chosen .choose-corners .ensures .0))
+    let there = sym (holding-exists holding (start .args .way) (start .args .side) _ (chosen .choose-corners .ensures .0))
     ∙ not-false (chosen .choose-corners .result .exists) (c .before .before .if2 .left) in
-    choose-accepts (start .pre) (start .args .side) (now (start .args .table))
+    choose-accepts (start .pre) (start .args .way) (start .args .side) (now (start .args .table))
     (given-first (start .args .side) (start .args .plan .count) (length (now (start .args .table))) (given (call .before)) ready)
     (chosen .choose-corners .ensures .1) there (given (call .before)) (holding-ready holding (now (start .args .table)) ready .some-sites)
     (ap {B = Planned} (λ (p : Plan). record { outcome = Done; plan = p })
-    (c .placed-at .ensures ∙ holding-placed holding (start .args .side) (chosen .choose-corners .result) (chosen .choose-corners .ensures .0)))
+    (holding-placed holding (start .args .way) (start .args .side) (chosen .choose-corners .result) (chosen .choose-corners .ensures .0) (c .placed-at .ensures)))
 
 pub choose-at-spec : {M : Type 1} → statement M
 choose-at-spec =

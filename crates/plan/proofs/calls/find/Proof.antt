@@ -23,7 +23,7 @@ returns : tie.Need-returns
 returns c =
     let call = c .before .before .before in
     let start = call .before .before in
-    find-refuses (start .args .plan) (now (start .args .table)) (outcome-refused _ (sym (call .unready .ensures) ∙ c .before .failed .given .1))
+    find-refuses (start .args .plan) (start .args .way) (now (start .args .table)) (outcome-refused _ (sym (call .unready .ensures) ∙ c .before .failed .given .1))
 
 enum-told : tie.Need-enum-told
 enum-told c = search needs
@@ -44,8 +44,8 @@ returns-2 c =
     let told = found .before .before .before in
     let call = told .before .before in
     let start = call .before .before in
-    find-accepts (start .args .plan) (now (start .args .table)) (outcome-done _ (sym (call .unready .ensures) ∙ told .enum-told .given .1))
-    (found .find-side .ensures .0 ∙ ap (λ (ps : List Place). answerOf ps .side) (holding-places (valid-holding (start .pre))))
+    find-accepts (start .args .plan) (start .args .way) (now (start .args .table)) (outcome-done _ (sym (call .unready .ensures) ∙ told .enum-told .given .1))
+    (found .find-side .ensures .0 ∙ ap (λ (ps : List Place). answerOf (start .args .way) ps .side) (holding-places (valid-holding (start .pre))))
     (found .find-side .ensures .1 .0)
 
 pub find-spec : {M : Type 1} → statement M

@@ -21,16 +21,18 @@ put-planned-requires : tie.Need-put-planned-requires
 unfolding placedWith
 put-planned-requires c κs =
     let placed = c .before in
-    handed-put placedPlan started (toPlace (readList (now (placed .before .before .args .text))))
+    let args = placed .before .before .args in
+    handed-put (placedPlan (args .way)) started (toPlace (readList (now (args .text))))
     (placed .place-list .ensures .0) (placed .place-list .ensures .1 .0) (λ sites. refl) (search needs)
 
 returns : tie.Need-returns
 returns c =
     let placed = c .before .before in
-    let text = now (placed .before .before .args .text) in
-    let put = output-put (outputOf text) (search needs) (output-longest text) (placed-output text (placed .place-list .ensures .0))
-    (c .put-planned .ensures) in
-    (put .0, (put .1 .0, subst (Answered text) (sym (put .1 .1)) (output-answered text)))
+    let args = placed .before .before .args in
+    let text = now (args .text) in
+    let put = output-put (outputOf (args .way) text) (search needs) (output-longest (args .way) text)
+    (placed-output (args .way) text (placed .place-list .ensures .0)) (c .put-planned .ensures) in
+    (put .0, (put .1 .0, subst (Answered (args .way) text) (sym (put .1 .1)) (output-answered (args .way) text)))
 
 pub output-spec : {M : Type 1} → statement M
 output-spec = tie.close (tie.spec place-list-requires put-planned-requires returns)

@@ -22,7 +22,7 @@ unfolding placedWith
 put-planned-requires c κs =
     let placed = c .before in
     let args = placed .before .before .args in
-    handed-put (placedAt (args .side)) started (toPlaceAt (args .side) (existsAt (args .side)) (readList (now (args .text))))
+    handed-put (placedAt (args .way) (args .side)) started (toPlaceAt (args .side) (existsAt (args .way) (args .side)) (readList (now (args .text))))
     (placed .place-list-at .ensures .0) (placed .place-list-at .ensures .1 .0) (λ sites. refl) (search needs)
 
 returns : tie.Need-returns
@@ -30,9 +30,9 @@ returns c =
     let placed = c .before .before in
     let args = placed .before .before .args in
     let text = now (args .text) in
-    let put = output-put (outputAt (args .side) text) (search needs) (output-longest-at (args .side) text)
-    (placed-output-at (args .side) text (placed .place-list-at .ensures .0)) (c .put-planned .ensures) in
-    (put .0, (put .1 .0, subst (AnsweredAt (args .side) text) (sym (put .1 .1)) (output-answered-at (args .side) text)))
+    let put = output-put (outputAt (args .way) (args .side) text) (search needs) (output-longest-at (args .way) (args .side) text)
+    (placed-output-at (args .way) (args .side) text (placed .place-list-at .ensures .0)) (c .put-planned .ensures) in
+    (put .0, (put .1 .0, subst (AnsweredAt (args .way) (args .side) text) (sym (put .1 .1)) (output-answered-at (args .way) (args .side) text)))
 
 pub output-at-spec : {M : Type 1} → statement M
 output-at-spec = tie.close (tie.spec place-list-at-requires put-planned-requires returns)

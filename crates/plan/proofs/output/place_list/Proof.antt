@@ -31,9 +31,9 @@ enum-told c = search needs
 returns : tie.Need-returns
 returns c =
     let listed = c .before .before in
-    let text = now (listed .before .before .args .text) in
-    let refused = reading-refused text (listed .read .ensures .0) (c .enum-told .given .1) in
-    (refused, (listed .read .ensures .1 .0, list-told text refused))
+    let args = listed .before .before .args in
+    let refused = reading-refused (args .way) (now (args .text)) (listed .read .ensures .0) (c .enum-told .given .1) in
+    (refused, (listed .read .ensures .1 .0, list-told (args .way) (now (args .text)) refused))
 
 enum-told-2 : tie.Need-enum-told-2
 enum-told-2 c = search needs
@@ -66,10 +66,11 @@ returns-2 c =
     let found = known .before .before .before in
     let told = found .before .before .before in
     let listed = told .before .before in
-    let text = now (listed .before .before .args .text) in
-    let placed = reading-placed text lent lent-size (found .find .last .1 .0) (search needs)
+    let args = listed .before .before .args in
+    let text = now (args .text) in
+    let placed = reading-placed (args .way) text lent lent-size (found .find .last .1 .1 .0) (search needs)
     (listed .read .ensures .0) (told .enum-told2 .given .1) (sym (known .found .given .1) ∙ found .find .ensures .0) (chosen .choose-at .ensures .0) in
-    (placed, (chosen .choose-at .ensures .1 .1 .0, list-told text placed))
+    (placed, (chosen .choose-at .ensures .1 .1 .0, list-told (args .way) text placed))
 
 returns-3 : tie.Need-returns-3
 returns-3 c =
@@ -77,11 +78,12 @@ returns-3 c =
     let found = known .before .before .before in
     let told = found .before .before .before in
     let listed = told .before .before in
-    let text = now (listed .before .before .args .text) in
+    let args = listed .before .before .args in
+    let text = now (args .text) in
     let refused = c .refuse .ensures
-    ∙ reading-unfound text lent lent-size
+    ∙ reading-unfound (args .way) text lent lent-size
     (listed .read .ensures .0) (told .enum-told2 .given .1) (sym (known .found2 .given .1) ∙ found .find .ensures .0) in
-    (refused, (subst (λ (p : Planned). Valid (p .plan)) (sym (c .refuse .ensures)) (listed .read .ensures .1 .0), list-told text refused))
+    (refused, (subst (λ (p : Planned). Valid (p .plan)) (sym (c .refuse .ensures)) (listed .read .ensures .1 .0), list-told (args .way) text refused))
 
 pub place-list-spec : {M : Type 1} → statement M
 place-list-spec =

@@ -39,11 +39,11 @@ returns c =
     let start = tested .before .before .before in
     let text = now (start .args .text) in
     let outside = sym (tested .before .is-side .ensures) ∙ not-true (tested .before .is-side .result) (tested .if1 .taken) in
-    let refused = c .refuse .ensures ∙ ap (λ (p : Plan). refusal-of p BadNumber) (started .start .ensures .0) ∙ side-refused-at (start .args .side) text outside in (
+    let refused = c .refuse .ensures ∙ ap (λ (p : Plan). refusal-of p BadNumber) (started .start .ensures .0) ∙ side-refused-at (start .args .way) (start .args .side) text outside in (
       refused,
       (
         subst (λ (p : Planned). Valid (p .plan)) (sym (c .refuse .ensures)) (started .start .ensures .1),
-        list-told-at (start .args .side) text refused,
+        list-told-at (start .args .way) (start .args .side) text refused,
       ),
     )
 
@@ -58,8 +58,8 @@ returns-2 c =
     let listed = c .before .before in
     let start = listed .before .before .before .before in
     let text = now (start .args .text) in
-    let refused = reading-refused-at (start .args .side) (given (listed .before)) text (listed .read .ensures .0) (c .enum-told .given .1) in
-    (refused, (listed .read .ensures .1 .0, list-told-at (start .args .side) text refused))
+    let refused = reading-refused-at (start .args .way) (start .args .side) (given (listed .before)) text (listed .read .ensures .0) (c .enum-told .given .1) in
+    (refused, (listed .read .ensures .1 .0, list-told-at (start .args .way) (start .args .side) text refused))
 
 enum-told-2 : tie.Need-enum-told-2
 enum-told-2 c = search needs
@@ -89,12 +89,12 @@ returns-3 c =
     let start = listed .before .before .before .before in
     let text = now (start .args .text) in
     let refused = c .refuse2 .ensures ∙ ap (λ (p : Plan). refusal-of p (known .choosing .given .0 .0)) (started .start2 .ensures .0)
-    ∙ choosing-refused (start .args .side) (given (listed .before)) text (replicate fullTable 0) (length-replicate {A = ℕ} fullTable 0)
+    ∙ choosing-refused (start .args .way) (start .args .side) (given (listed .before)) text (replicate fullTable 0) (length-replicate {A = ℕ} fullTable 0)
     (listed .read .ensures .0) (told .enum-told2 .given .1) (chosen .choose-at .ensures .0) (known .choosing .given .1) in (
       refused,
       (
         subst (λ (p : Planned). Valid (p .plan)) (sym (c .refuse2 .ensures)) (started .start2 .ensures .1),
-        list-told-at (start .args .side) text refused,
+        list-told-at (start .args .way) (start .args .side) text refused,
       ),
     )
 
@@ -108,9 +108,9 @@ returns-4 c =
     let listed = told .before .before in
     let start = listed .before .before .before .before in
     let text = now (start .args .text) in
-    let placed = choosing-done (start .args .side) (given (listed .before)) text (replicate fullTable 0) (length-replicate {A = ℕ} fullTable 0)
+    let placed = choosing-done (start .args .way) (start .args .side) (given (listed .before)) text (replicate fullTable 0) (length-replicate {A = ℕ} fullTable 0)
     (listed .read .ensures .0) (told .enum-told2 .given .1) (chosen .choose-at .ensures .0) (c .enum-told3 .given .1) in
-    (placed, (chosen .choose-at .ensures .1 .1 .0, list-told-at (start .args .side) text placed))
+    (placed, (chosen .choose-at .ensures .1 .1 .0, list-told-at (start .args .way) (start .args .side) text placed))
 
 pub place-list-at-spec : {M : Type 1} → statement M
 place-list-at-spec =

@@ -1,11 +1,18 @@
 //! A straightforward placer of the same lists, to compare cost with. It follows the rules of document 01 and the same method:
 //! decide a corner, carry the decision on, walk the sites in list order, bisect for the side. Usage:
-//!     baseline place [SIDE] < LIST   writes the sheet, at the side found or at this one
-//!     baseline list KIND N           writes a list: random, grid, row, diagonal, antidiagonal, packed, jitter
+//!     baseline place [above] [SIDE] < LIST   writes the sheet, with four corners or 1 and 2, at the side found or at this one
+//!     baseline list KIND N                   writes a list: random, grid, row, diagonal, antidiagonal, packed, jitter
 use std::io::{self, Read, Write};
 
 const FREE: i64 = 20_001;
 const DIRECTIONS: [(i64, i64); 4] = [(1, 1), (-1, 1), (-1, -1), (1, -1)];
+
+/// Which corners count: of all four those that are not crowded, or 1 and 2, crowded or not.
+#[derive(Clone, Copy)]
+enum Way {
+    Usual,
+    Above,
+}
 
 #[derive(Clone)]
 struct Site {
@@ -44,6 +51,14 @@ fn crowded(h: i64, sites: &[Site], i: usize, c: usize) -> bool {
     })
 }
 
+// Whether a corner counts before any corner is decided.
+fn is_open(way: Way, h: i64, sites: &[Site], i: usize, c: usize) -> bool {
+    match way {
+        Way::Usual => !crowded(h, sites, i, c),
+        Way::Above => c < 2,
+    }
+}
+
 fn try_corner(h: i64, sites: &[Site], state: &State, i: usize, c: usize) -> Option<State> {
     let mut next = state.clone();
     next.open[i] = [false; 4];
@@ -78,12 +93,12 @@ fn try_corner(h: i64, sites: &[Site], state: &State, i: usize, c: usize) -> Opti
     Some(next)
 }
 
-fn choose(h: i64, sites: &[Site]) -> Option<Vec<usize>> {
+fn choose(way: Way, h: i64, sites: &[Site]) -> Option<Vec<usize>> {
     let n = sites.len();
     let mut open = vec![[false; 4]; n];
     for i in 0..n {
         for c in 0..4 {
-            open[i][c] = !crowded(h, sites, i, c);
+            open[i][c] = is_open(way, h, sites, i, c);
         }
     }
     let mut state = State { open, decided: vec![None; n] };
@@ -96,15 +111,15 @@ fn choose(h: i64, sites: &[Site]) -> Option<Vec<usize>> {
     Some(state.decided.iter().map(|c| c.unwrap()).collect())
 }
 
-fn place(sites: &[Site]) -> (Option<i64>, Vec<usize>) {
-    if let Some(corners) = choose(FREE, sites) {
+fn place(way: Way, sites: &[Site]) -> (Option<i64>, Vec<usize>) {
+    if let Some(corners) = choose(way, FREE, sites) {
         return (None, corners);
     }
     let (mut low, mut high) = (1, FREE);
     let mut best = vec![0; sites.len()];
     while low + 1 < high {
         let middle = (low + high) / 2;
-        match choose(middle, sites) {
+        match choose(way, middle, sites) {
             Some(corners) => {
                 best = corners;
                 low = middle;
@@ -126,15 +141,15 @@ fn sheet_with(sites: &[Site], side: Option<i64>, corners: Vec<usize>) -> String 
     text
 }
 
-fn sheet(sites: &[Site]) -> String {
-    let (side, corners) = place(sites);
+fn sheet(way: Way, sites: &[Site]) -> String {
+    let (side, corners) = place(way, sites);
     sheet_with(sites, side, corners)
 }
 
 // The sheet at a given side, from 1 to 20,000 or free, or its refusal.
-fn sheet_at(sites: &[Site], word: &str) -> String {
+fn sheet_at(way: Way, sites: &[Site], word: &str) -> String {
     let side = word.parse().ok();
-    match choose(side.unwrap_or(FREE), sites) {
+    match choose(way, side.unwrap_or(FREE), sites) {
         Some(corners) => sheet_with(sites, side, corners),
         None => String::from("refused\t12\n"),
     }
@@ -184,13 +199,14 @@ fn make_list(kind: &str, n: usize) -> String {
 
 fn main() {
     let words: Vec<String> = std::env::args().collect();
-    let text = match words.get(1).map(|w| w.as_str()) {
-        Some("place") => match words.get(2) {
-            Some(side) => sheet_at(&read_list(), side),
-            None => sheet(&read_list()),
-        },
-        Some("list") => make_list(&words[2], words[3].parse().unwrap()),
-        _ => panic!("usage: baseline place [SIDE] < LIST, or baseline list KIND N"),
+    let words: Vec<&str> = words.iter().skip(1).map(|w| w.as_str()).collect();
+    let text = match words[..] {
+        ["place"] => sheet(Way::Usual, &read_list()),
+        ["place", "above"] => sheet(Way::Above, &read_list()),
+        ["place", side] => sheet_at(Way::Usual, &read_list(), side),
+        ["place", "above", side] => sheet_at(Way::Above, &read_list(), side),
+        ["list", kind, n] => make_list(kind, n.parse().unwrap()),
+        _ => panic!("usage: baseline place [above] [SIDE] < LIST, or baseline list KIND N"),
     };
     io::stdout().write_all(text.as_bytes()).unwrap();
 }

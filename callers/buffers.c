@@ -1,7 +1,7 @@
 /* A list on standard input, and in the file that the first word names the output for it: tries a call with buffers of many sizes, and
-   prints each size, and what came where it should not. The call is that at a side where a second word gives one, as a number. Every byte
-   of a buffer comes as a pattern; list and buffer end each where memory that cannot be touched begins, and the list cannot be
-   written. */
+   prints each size, and what came where it should not. The second word is the way, as a number; the call is that at a side where a third
+   gives one, as a number. Every byte of a buffer comes as a pattern; list and buffer end each where memory that cannot be touched begins,
+   and the list cannot be written. */
 #include <stdio.h>
 #include <stdlib.h>
 #include <string.h>
@@ -46,7 +46,7 @@ static int holds(struct pages pages, const uint8_t *sheet, size_t written) {
 static uint8_t text[ROOM], output[ROOM];
 static size_t text_length, output_length;
 static int given;
-static uint32_t side;
+static uint32_t way, side;
 
 /* The number of the refusal; 0 where the output is a sheet. */
 static size_t refusal(void) {
@@ -61,8 +61,8 @@ static int wrong_with(const uint8_t *list, size_t size) {
     struct pages buffer = lend(size);
     int wrong = 0;
     printf("%zu ", size);
-    size_t came = given ? lemoncanyon_sheet_at(list, text_length, side, buffer.lent, size)
-                        : lemoncanyon_sheet(list, text_length, buffer.lent, size);
+    size_t came = given ? lemoncanyon_sheet_at(list, text_length, way, side, buffer.lent, size)
+                        : lemoncanyon_sheet(list, text_length, way, buffer.lent, size);
     if (came != should) {
         printf("(came %zu, should %zu) ", came, should);
         wrong = 1;
@@ -76,14 +76,15 @@ static int wrong_with(const uint8_t *list, size_t size) {
 
 int main(int count, char **words) {
     text_length = fread(text, 1, ROOM, stdin);
-    FILE *file = count == 2 || count == 3 ? fopen(words[1], "rb") : 0;
+    FILE *file = count == 3 || count == 4 ? fopen(words[1], "rb") : 0;
     if (!file) {
-        puts("usage: buffers OUTPUT [SIDE] < LIST");
+        puts("usage: buffers OUTPUT WAY [SIDE] < LIST");
         return 2;
     }
     output_length = fread(output, 1, ROOM, file);
-    given = count == 3;
-    side = given ? strtoul(words[2], 0, 10) : 0;
+    way = strtoul(words[2], 0, 10);
+    given = count == 4;
+    side = given ? strtoul(words[3], 0, 10) : 0;
     size_t shortest = given ? LEMONCANYON_SHORTEST_AT : LEMONCANYON_SHORTEST;
     if (!refusal() && (output_length < shortest || output_length > LEMONCANYON_LONGEST)) {
         printf("a sheet of %zu bytes is outside the limits\n", output_length);

@@ -1,5 +1,6 @@
-/* A list on standard input, its sheet or its refusal on standard output: what `place` does, over the static library. With a word, which is
-   a number of half units or `free`, the list is placed at that side. */
+/* A list on standard input, its sheet or its refusal on standard output: what `place` does, over the static library. With the word above
+   first, labels are above the spot only; with a word behind that or alone, which is a number of half units or `free`, the list is placed
+   at that side. */
 #include <ctype.h>
 #include <stdio.h>
 #include <stdlib.h>
@@ -24,9 +25,11 @@ int main(int count, char **words) {
         fputs("sheet: standard input cannot be read\n", stderr);
         return 1;
     }
-    int given = count > 1;
-    size_t number = given ? lemoncanyon_sheet_at(list, length, side_from(words[1]), buffer, sizeof buffer)
-                          : lemoncanyon_sheet(list, length, buffer, sizeof buffer);
+    int above = count > 1 && strcmp(words[1], "above") == 0;
+    uint32_t way = above ? LEMONCANYON_ABOVE : LEMONCANYON_USUAL;
+    int given = count > 1 + above;
+    size_t number = given ? lemoncanyon_sheet_at(list, length, way, side_from(words[1 + above]), buffer, sizeof buffer)
+                          : lemoncanyon_sheet(list, length, way, buffer, sizeof buffer);
     if (number < (given ? LEMONCANYON_SHORTEST_AT : LEMONCANYON_SHORTEST))
         printf("refused\t%zu\n", number);
     else

@@ -1,6 +1,6 @@
 /* A list on standard input, and in the file that the first word names the output for it: makes a call in several threads at once, each
-   with a buffer of its own, over the same list. The call is that at a side where a second word gives one, as a number. The exit status
-   is 0 where every call gave that sheet or that refusal. */
+   with a buffer of its own, over the same list. The second word is the way, as a number; the call is that at a side where a third gives
+   one, as a number. The exit status is 0 where every call gave that sheet or that refusal. */
 #include <pthread.h>
 #include <stdio.h>
 #include <stdlib.h>
@@ -15,13 +15,14 @@
 static uint8_t list[ROOM], output[ROOM];
 static size_t list_length, output_length;
 static int given;
-static uint32_t side;
+static uint32_t way, side;
 /* So that all threads are there when the first call is made. */
 static pthread_barrier_t all;
 
 /* What the call hands back, and what it should. */
 static size_t came_with(uint8_t *buffer, size_t length) {
-    return given ? lemoncanyon_sheet_at(list, list_length, side, buffer, length) : lemoncanyon_sheet(list, list_length, buffer, length);
+    return given ? lemoncanyon_sheet_at(list, list_length, way, side, buffer, length)
+                 : lemoncanyon_sheet(list, list_length, way, buffer, length);
 }
 
 static size_t should(void) {
@@ -43,13 +44,14 @@ static void *calls(void *wrong) {
 }
 
 int main(int count, char **words) {
-    FILE *file = count == 2 || count == 3 ? fopen(words[1], "rb") : 0;
+    FILE *file = count == 3 || count == 4 ? fopen(words[1], "rb") : 0;
     if (!file) {
-        puts("usage: threads OUTPUT [SIDE] < LIST");
+        puts("usage: threads OUTPUT WAY [SIDE] < LIST");
         return 2;
     }
-    given = count == 3;
-    side = given ? strtoul(words[2], 0, 10) : 0;
+    way = strtoul(words[2], 0, 10);
+    given = count == 4;
+    side = given ? strtoul(words[3], 0, 10) : 0;
     list_length = fread(list, 1, ROOM, stdin);
     output_length = fread(output, 1, ROOM, file);
 

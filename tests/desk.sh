@@ -340,16 +340,24 @@ else
     echo 'Nothing can be mounted here: a full disk is not tried.'
 fi
 
-for words in '' 'level.list level.list' 'level.list abc' 'level.list -4' 'level.list 4.5' 'level.list Free' 'level.list 4 5' \
-    nothing.list 'nothing.list 4' . --help; do
+# misused WORDS..: the script with these words says how it is used
+misused() {
     fresh "$made/example.list"
-    echo 'usage: file-a-sheet LIST [SIDE]    where LIST is a file that can be read, and SIDE a number of half units or free' \
+    echo 'usage: file-a-sheet LIST [above] [SIDE]    where LIST is a file that can be read, and SIDE a number of half units or free' \
         >"$desk/complained"
-    files "bad usage: \"$words\"" 2 $words
+    files "bad usage: \"$*\"" 2 "$@"
+}
+for words in '' 'level.list level.list' 'level.list abc' 'level.list -4' 'level.list 4.5' 'level.list Free' 'level.list 4 5' \
+    nothing.list 'nothing.list 4' . --help 'level.list Above' 'level.list abov' 'level.list aboveX' 'level.list above above' \
+    'level.list 4 above' 'level.list above -4' 'level.list above Free' 'level.list above 4 5' 'level.list above 4 above' \
+    'nothing.list above' 'above level.list' above 'above above' 'above 4'; do
+    misused $words
 done
-fresh "$made/example.list"
-echo 'usage: file-a-sheet LIST [SIDE]    where LIST is a file that can be read, and SIDE a number of half units or free' >"$desk/complained"
-files 'an empty word for the side' 2 level.list ''
+misused level.list ''
+misused level.list above ''
+misused level.list '' above
+misused level.list 'above '
+misused level.list 'above 4'
 
 # At a stock size
 fresh "$made/example.list"
@@ -375,6 +383,65 @@ with=$desk/bin/at-another-side
 fresh "$made/example.list"
 complains 'the sheet of level.list is not at side 4'
 files 'a sheet at another side' 1 level.list 4
+fresh "$made/example.list"
+complains 'the sheet of level.list is not at side 4'
+files 'a sheet above at another side' 1 level.list above 4
+with=$program
+
+# Above the spot: the same file, in place of an earlier sheet, and the line says so
+fresh "$made/example.list"
+printf 'side\t8\nA\t10\t10\t1\nB\t10\t14\t1\nC\t10\t20\t1\n' >"$desk/should/level.sheet"
+echo 'level.sheet: side 8, labels above, sites 3' >"$desk/said"
+files above 0 level.list above
+fresh "$made/row.list"
+printf 'side\t7\nA\t0\t0\t2\nB\t3\t0\t1\nC\t10\t0\t1\n' >"$desk/should/level.sheet"
+echo 'level.sheet: side 7 as given, labels above, sites 3' >"$desk/said"
+files 'above, at side 7' 0 level.list above 7
+fresh examples/pair.list
+{ printf 'side\tfree\n'; printf '2\n1\n' | paste examples/pair.list -; } >"$desk/should/level.sheet"
+echo 'level.sheet: side free as given, labels above, sites 2' >"$desk/said"
+files 'above, at side free' 0 level.list above free
+fresh examples/level.list
+"$program" above <examples/level.list >"$desk/should/level.sheet"
+echo 'level.sheet: side 180, labels above, sites 60' >"$desk/said"
+files 'examples/level.list above' 0 level.list above
+# A list of this name is a list, and its sheet is named as any other.
+accepted above above.sheet
+files 'a list named above' 0 above
+accepted above above.sheet
+printf 'side\t8\nA\t10\t10\t1\nB\t10\t14\t1\nC\t10\t20\t1\n' >"$desk/should/above.sheet"
+echo 'above.sheet: side 8, labels above, sites 3' >"$desk/said"
+files 'a list named above, above' 0 above above
+# refusal_above LIST [SIDE]: it is refused as by the program
+refusal_above() {
+    fresh "$1"
+    "$program" above ${2+"$2"} <"$1" >"$made/answer" 2>"$desk/complained"
+    number=$(cut -f 2 "$made/answer")
+    complains "level.list is refused, number $number"
+    shift
+    files "refused $number above${1+ at side $1}" 1 level.list above "$@"
+}
+for side in 9 free 0 20001 04; do refusal_above "$made/example.list" "$side"; done
+refusal_above "$made/bad.list"
+refusal_above "$made/bad.list" 4
+refusal_above "$made/nothing"
+# Programs that take no heed of the word: one that writes the sheet of four corners, and one that says its usage and writes nothing
+with=$desk/bin/first-bytes
+fresh "$made/example.list"
+complains 'the sheet of level.list has a label below its spot'
+files 'a sheet with a label below its spot' 1 level.list above
+fresh "$made/example.list"
+complains 'the sheet of level.list has a label below its spot'
+files 'a sheet with a label below its spot, at side 6' 1 level.list above 6
+written says-its-usage <<'END'
+#!/bin/sh
+echo 'usage: place [SIDE] < LIST > SHEET' >&2
+END
+with=$desk/bin/says-its-usage
+fresh "$made/example.list"
+echo 'usage: place [SIDE] < LIST > SHEET' >"$desk/complained"
+complains 'the sheet of level.list is not whole'
+files 'a program that does not know above' 1 level.list above
 with=$program
 
 # ---- clean-list

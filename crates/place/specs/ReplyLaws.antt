@@ -6,6 +6,7 @@ use Prim.Native.Nat.{ℕ, zero, suc, _≤_}
 use native.Mathlib.Omega.{arith}
 use lib.ListN.{length, getD, take, drop, length-take}
 use lib.Seq.{take-all, take-at}
+use Rattle.placing.specs.declared.way.Way.{Way}
 use Rattle.plan.specs.rules.List.{longestText}
 use Rattle.plan.specs.rules.Sheet.{sheetWith}
 use Rattle.plan.specs.rules.Calls.{filledWith}
@@ -19,26 +20,26 @@ use Rattle.place.specs.declared.answer.Answer.the-variants.{Output, Unre
 use Rattle.place.specs.Reply.{outputBy, AnsweredBy, OutputFor, Replied, IsRefused, Writable}
 
 -- What `output` leaves for the bytes read is the output for every input that starts with them.
-pub output-for : {n : ℕ} {after : List ℕ} (at : At) (read buffer : List ℕ) → n ≡ length (outputBy at read)
-    → after ≡ filledWith (outputBy at read) buffer → OutputFor at read n after
-output-for {n} {after} at read buffer size is =
+pub output-for : {n : ℕ} {after : List ℕ} (way : Way) (at : At) (read buffer : List ℕ) → n ≡ length (outputBy way at read)
+    → after ≡ filledWith (outputBy way at read) buffer → OutputFor way at read n after
+output-for {n} {after} way at read buffer size is =
     record {
-      within = output-within (outputBy at read) buffer size is;
+      within = output-within (outputBy way at read) buffer size is;
       output = whole;
-      answered = λ input first. subst (AnsweredBy at input) (sym (whole input first)) (by-answered at input);
+      answered = λ input first. subst (AnsweredBy way at input) (sym (whole input first)) (by-answered at input);
     }
   where
-    by-first : (a : At) (input : List ℕ) → take longestText input ≡ read → outputBy a read ≡ outputBy a input
-    by-first Found input first = output-first input read first
-    by-first (Given side) input first = output-first-at side input read first
+    by-first : (a : At) (input : List ℕ) → take longestText input ≡ read → outputBy way a read ≡ outputBy way a input
+    by-first Found input first = output-first way input read first
+    by-first (Given side) input first = output-first-at way side input read first
 
-    by-answered : (a : At) (input : List ℕ) → AnsweredBy a input (outputBy a input)
-    by-answered Found input = output-answered input
-    by-answered (Given side) input = output-answered-at side input
+    by-answered : (a : At) (input : List ℕ) → AnsweredBy way a input (outputBy way a input)
+    by-answered Found input = output-answered way input
+    by-answered (Given side) input = output-answered-at way side input
 
-    whole : (input : List ℕ) → take longestText input ≡ read → take n after ≡ outputBy at input
+    whole : (input : List ℕ) → take longestText input ≡ read → take n after ≡ outputBy way at input
     whole input first =
-        ap (take n) is ∙ take-at (outputBy at read) (drop (length (outputBy at read)) buffer) n (sym size) ∙ by-first at input first
+        ap (take n) is ∙ take-at (outputBy way at read) (drop (length (outputBy way at read)) buffer) n (sym size) ∙ by-first at input first
 
 -- The first byte of a part from the front is the first byte of the whole.
 first-byte : (n b : ℕ) (buffer rest : List ℕ) → take n buffer ≡ b ∷ rest → getD buffer 0 0 ≡ b
@@ -47,26 +48,26 @@ first-byte (suc n) b [] rest is = absurd (omega (arith, ap length is))
 first-byte (suc n) b (c ∷ buffer) rest is = cc
 
 -- A sheet starts with the letter s, of the word side; so what starts with another is the line of a refusal.
-letter-refuses : {output : List ℕ} (at : At) (text : List ℕ) (n : ℕ) (buffer : List ℕ) → output ≡ take n buffer → AnsweredBy at text output
-    → getD buffer 0 0 ≡ 114 → IsRefused at text
+letter-refuses : {output : List ℕ} (way : Way) (at : At) (text : List ℕ) (n : ℕ) (buffer : List ℕ) → output ≡ take n buffer → AnsweredBy way at text output
+    → getD buffer 0 0 ≡ 114 → IsRefused way at text
 unfolding sheetWith
-letter-refuses Found text n buffer is (refusal-line {number} refused line) letter = (number, refused)
-letter-refuses Found text n buffer is (list-sheet for) letter =
+letter-refuses way Found text n buffer is (refusal-line {number} refused line) letter = (number, refused)
+letter-refuses way Found text n buffer is (list-sheet for) letter =
     absurd (omega (arith, letter, first-byte n 115 buffer _ (sym is ∙ for .right .prints)))
-letter-refuses (Given side) text n buffer is (refusal-at {number} refused line) letter = (number, refused)
-letter-refuses (Given side) text n buffer is (sheet-at for) letter =
+letter-refuses way (Given side) text n buffer is (refusal-at {number} refused line) letter = (number, refused)
+letter-refuses way (Given side) text n buffer is (sheet-at for) letter =
     absurd (omega (arith, letter, first-byte n 115 buffer _ (sym is ∙ for .placed .prints)))
 
 -- What was answered for the bytes read can be written.
-pub replied-writable : (at : At) (start room : List ℕ) (answer : Answer) (buffer : List ℕ) → Replied at start room answer buffer
-    → Writable at answer room buffer
-replied-writable at start room (Output reading n) buffer replied =
+pub replied-writable : (way : Way) (at : At) (start room : List ℕ) (answer : Answer) (buffer : List ℕ) → Replied way at start room answer buffer
+    → Writable way at answer room buffer
+replied-writable way at start room (Output reading n) buffer replied =
     let within = replied .input-read .finished .within in
     let short : length (take (reading .at) room) ≤ longestText = omega (arith, length-take (reading .at) room, replied .input-read .size) in
     let read = take-all longestText (take (reading .at) room) short in
     record {
       read-within = within;
       output-within = replied .output-for .within;
-      is-refused = letter-refuses at (take (reading .at) room) n buffer refl (replied .output-for .answered (take (reading .at) room) read);
+      is-refused = letter-refuses way at (take (reading .at) room) n buffer refl (replied .output-for .answered (take (reading .at) room) read);
     }
-replied-writable at start room (Unread reading) buffer replied = tt
+replied-writable way at start room (Unread reading) buffer replied = tt

@@ -1,6 +1,7 @@
 // Reading the list from standard input, and writing its answer. Nothing but `answer_input` is seen outside, so that no answer and no
 // reading can be made up elsewhere.
 use crate::asked::At;
+use crate::asked::How;
 use crate::explain::tell_refused;
 use crate::tell::tell;
 use libc::STDIN_FILENO;
@@ -101,22 +102,24 @@ fn read_input(text: &mut [u8]) -> Reading
     reading
 }
 
-// The output for a list at the side asked for.
-fn put_output(text: &[u8], at: At, buffer: &mut [u8; TextLimits::SHEET]) -> usize
-    ensures length { λ r. ⌜ r ≡ length (outputBy at (now (text .entry))) ⌝ }
-    ensures buffer { λ r. ⌜ now (buffer .exit) ≡ filledWith (outputBy at (now (text .entry))) (now (buffer .entry)) ⌝ }
+// The output for a list, by the way and at the side asked for.
+fn put_output(text: &[u8], how: How, buffer: &mut [u8; TextLimits::SHEET]) -> usize
+    ensures length { λ r. ⌜ r ≡ length (outputBy (how .way) (how .at) (now (text .entry))) ⌝ }
+    ensures buffer { λ r. ⌜ now (buffer .exit) ≡ filledWith (outputBy (how .way) (how .at) (now (text .entry))) (now (buffer .entry)) ⌝ }
 {
+    let way = how.way;
+    let at = how.at;
     match at {
-        At::Found => output(text, buffer),
-        At::Given(side) => output_at(text, side, buffer),
+        At::Found => output(text, way, buffer),
+        At::Given(side) => output_at(text, way, side, buffer),
     }
 }
 
 // Reads the list into the room and puts its output into the buffer. The bytes read decide every longer text. A list cut short by a
 // failed read has no output.
-fn reply(text: &mut [u8], at: At, buffer: &mut [u8; TextLimits::SHEET]) -> Answer
+fn reply(text: &mut [u8], how: How, buffer: &mut [u8; TextLimits::SHEET]) -> Answer
     requires { ⌜ length (now text) ≡ longestText ⌝ }
-    ensures { λ r. ⌜ Replied at (now (text .entry)) (now (text .exit)) r (now (buffer .exit)) ⌝ }
+    ensures { λ r. ⌜ Replied (how .way) (how .at) (now (text .entry)) (now (text .exit)) r (now (buffer .exit)) ⌝ }
 {
     let reading = read_input(text);
     let last = reading.last;
@@ -124,12 +127,12 @@ fn reply(text: &mut [u8], at: At, buffer: &mut [u8; TextLimits::SHEET]) -> Answe
         return Answer::Unread(reading);
     }
     let n = reading.at;
-    Answer::Output(reading, put_output(&text[..n], at, buffer))
+    Answer::Output(reading, put_output(&text[..n], how, buffer))
 }
 
 // Writes the answer: the output, and why the list is refused where it is; or what cannot be read or written.
-fn write_answer(answer: Answer, text: &[u8], at: At, buffer: [u8; TextLimits::SHEET])
-    requires { ⌜ Writable at answer (now text) buffer ⌝ }
+fn write_answer(answer: Answer, text: &[u8], how: How, buffer: [u8; TextLimits::SHEET])
+    requires { ⌜ Writable (how .way) (how .at) answer (now text) buffer ⌝ }
 {
     let Answer::Output(reading, n) = answer else {
         tell(b"place: standard input cannot be read\n");
@@ -142,14 +145,14 @@ fn write_answer(answer: Answer, text: &[u8], at: At, buffer: [u8; TextLimits::SH
     // A refusal starts with the word refused, a sheet with the word side.
     if buffer[0] == b'r' {
         let end = reading.at;
-        tell_refused(&text[..end], at);
+        tell_refused(&text[..end], how);
     }
 }
 
-// Answers the list on standard input, at the side asked for.
-pub(crate) fn answer_input(at: At) {
+// Answers the list on standard input, by the way and at the side asked for.
+pub(crate) fn answer_input(how: How) {
     let mut text = [0u8; TextLimits::TEXT];
     let mut buffer = [0u8; TextLimits::SHEET];
-    let answer = reply(&mut text, at, &mut buffer);
-    write_answer(answer, &text, at, buffer);
+    let answer = reply(&mut text, how, &mut buffer);
+    write_answer(answer, &text, how, buffer);
 }

@@ -1,8 +1,11 @@
-// What the program is asked for by the word behind its name.
+// What the program is asked for by the words behind its name.
 use placing::units::Side;
-ghost use mathlib.Core.Path.{_≡_};
-ghost use Rattle.place.specs.Asked.{taskOf};
+use placing::way::Way;
+use plan::name::same_bytes;
 use plan::number::side_from;
+ghost use mathlib.Core.Path.{_≡_};
+ghost use Rattle.io.specs.Counts.{Counts};
+ghost use Rattle.place.specs.Asked.{placeBy, isAbove, sideTask, taskOf};
 
 // At which side the list is placed: the one that is found, or a given one.
 pub(crate) enum At {
@@ -10,41 +13,95 @@ pub(crate) enum At {
     Given(Side),
 }
 
+// How a list is placed.
+pub(crate) struct How {
+    pub way: Way,
+    pub at: At,
+}
+
 // To place a list, or to tell how that is done.
 pub(crate) enum Task {
-    Place(At),
+    Place(How),
     Usage,
 }
 
-// The word free, and a word that starts with a digit, ask for the side that they write, be it one or not; other words ask for none.
-fn word_asked(word: &[u8], first: u8) -> Task
-    ensures { λ r. ⌜ r ≡ taskOf (now (word .entry)) first ⌝ }
+// A word, from the front. One that does not fit is longer than every word that is known, and counts as none; but its first byte stands
+// there.
+struct Word {
+    bytes: [u8; 8],
+    len: usize,
+}
+
+fn place_by(way: Way, at: At) -> Task
+    ensures { λ r. ⌜ r ≡ placeBy way at ⌝ }
 {
-    let side = side_from(word);
+    Task::Place(How { way, at })
+}
+
+fn is_above(word: Word) -> bool
+    requires { ⌜ Counts (word .len) (word .bytes) ⌝ }
+    ensures { λ r. ⌜ r ≡ isAbove word ⌝ }
+{
+    let bytes = word.bytes;
+    let n = word.len;
+    same_bytes(&bytes[..n], b"above")
+}
+
+// The word free, and a word that starts with a digit, ask for the side that they write, be it one or not; other words ask for none.
+fn side_asked(way: Way, word: Word) -> Task
+    requires { ⌜ Counts (word .len) (word .bytes) ⌝ }
+    ensures { λ r. ⌜ r ≡ sideTask way word ⌝ }
+{
+    let bytes = word.bytes;
+    let n = word.len;
+    let side = side_from(&bytes[..n]);
     if let Side::Free = side {
-        return Task::Place(At::Given(side));
+        return place_by(way, At::Given(side));
     }
+    let first = bytes[0];
     if first < b'0' {
         return Task::Usage;
     }
     if first > b'9' {
         return Task::Usage;
     }
-    Task::Place(At::Given(side))
+    place_by(way, At::Given(side))
 }
 
-// Without a word the side is found. Of a word that does not fit the array, which is longer than every side, the first byte alone is looked at.
-pub(crate) fn asked() -> Task {
-    // The first is the program's own name.
-    let count = os::arg_count();
-    if count < 2 {
-        return Task::Place(At::Found);
+// By the number of words, and the first two of them.
+fn words_asked(words: usize, one: Word, two: Word) -> Task
+    requires { ⌜ Counts (one .len) (one .bytes) × Counts (two .len) (two .bytes) ⌝ }
+    ensures { λ r. ⌜ r ≡ taskOf words one two ⌝ }
+{
+    if words == 0 {
+        return place_by(Way::Usual, At::Found);
     }
-    if count > 2 {
+    if words > 2 {
         return Task::Usage;
     }
-    let mut word = [0u8; 8];
-    let n = os::arg(1, &mut word);
-    let first = word[0];
-    word_asked(&word[..n], first)
+    if is_above(one) {
+        if words == 1 {
+            return place_by(Way::Above, At::Found);
+        }
+        return side_asked(Way::Above, two);
+    }
+    if words == 1 {
+        return side_asked(Way::Usual, one);
+    }
+    Task::Usage
+}
+
+fn word_at(i: usize) -> Word
+    ensures { λ r. ⌜ Counts (r .len) (r .bytes) ⌝ }
+{
+    let mut bytes = [0u8; 8];
+    let len = os::arg(i, &mut bytes);
+    Word { bytes, len }
+}
+
+pub(crate) fn asked() -> Task {
+    let count = os::arg_count();
+    // The first is the program's own name.
+    let words = if count < 1 { 0 } else { count - 1 };
+    words_asked(words, word_at(1), word_at(2))
 }

@@ -1,5 +1,6 @@
 // Why a list is refused, on standard error: the line, the rule in words, and a hint where a common cause shows in the line's bytes.
 use crate::asked::At;
+use crate::asked::How;
 use crate::tell::tell;
 use hints::Explanation;
 use hints::Hint;
@@ -72,10 +73,11 @@ fn tell_unplaced(bytes: usize) {
     }
 }
 
-// Why this list is refused at this side: for the side, at its first refused line, since it has no sites or no good choice.
-pub(crate) fn tell_refused(text: &[u8], at: At)
-    requires { ⌜ IsRefused at (now text) ⌝ }
+// Why this list is refused: for the side, at its first refused line, since it has no sites or no good choice.
+pub(crate) fn tell_refused(text: &[u8], how: How)
+    requires { ⌜ IsRefused (how .way) (how .at) (now text) ⌝ }
 {
+    let at = how.at;
     if is_outside(at) {
         tell(
             b"place: a side outside the range: it is a number from 1 to 20000, with no leading zero, or the word free\n",

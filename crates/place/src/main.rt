@@ -1,5 +1,5 @@
-// The placing program: a list on standard input, its sheet or its refusal on standard output; at the side found, or at the side that its
-// one argument gives.
+// The placing program: a list on standard input, its sheet or its refusal on standard output; by the way and at the side that its
+// arguments give.
 mod answer;
 mod asked;
 mod explain;
@@ -12,9 +12,9 @@ use crate::asked::asked;
 use crate::usage::tell_usage;
 
 fn main() {
-    let Task::Place(at) = asked() else {
+    let Task::Place(how) = asked() else {
         tell_usage();
         return;
     };
-    answer_input(at);
+    answer_input(how);
 }

@@ -96,7 +96,7 @@ pub(crate) fn name_from(text: &[u8]) -> NameRead
 }
 
 // Whether two texts have the same bytes.
-pub(crate) fn same_bytes(a: &[u8], b: &[u8]) -> bool
+pub fn same_bytes(a: &[u8], b: &[u8]) -> bool
     ensures { λ r. ⌜ r ≡ sameBytes (now (a .entry)) (now (b .entry)) ⌝ }
 {
     let n = a.len();

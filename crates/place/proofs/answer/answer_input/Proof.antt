@@ -17,7 +17,7 @@ slice-aggregate-write-answer c = search needs
 write-answer-requires : tie.Need-write-answer-requires
 write-answer-requires c κs =
     let reply = c .before .before .reply in
-    replied-writable _ _ (reply .last .0) (reply .result) (reply .last .1 .1 .0) (reply .ensures)
+    replied-writable _ _ _ (reply .last .0) (reply .result) (reply .last .1 .1 .0) (reply .ensures)
 
 returns : tie.Need-returns
 returns c = search needs

@@ -66,7 +66,7 @@ returns-2 c =
     record {
       input-read = input-read known;
       sound = unfailed (known .before .before .read-input .result .last) (match .match .keys2);
-      output-for = output-for _ _ _ (c .put-output .ensures .0) (c .put-output .ensures .1);
+      output-for = output-for _ _ _ _ (c .put-output .ensures .0) (c .put-output .ensures .1);
     }
 
 pub reply-spec : {M : Type 1} → statement M

@@ -11,11 +11,11 @@ use Rattle.place.proofs.answer.write_answer.Tie as tie
 
 -- An output can be written.
 ready : (c : tie.After-answer)
-    → Ready (c .before .before .before .args .at) (c .before .before .before .args .text .now) (c .answer .given .0 .0) (c .answer .given .0 .1 .0)
+    → Ready (c .before .before .before .args .how .way) (c .before .before .before .args .how .at) (c .before .before .before .args .text .now) (c .answer .given .0 .0) (c .answer .given .0 .1 .0)
     (c .before .before .before .args .t4)
 ready c =
     let start = c .before .before .before in
-    subst (λ (answer : Answer). Writable (start .args .at) answer (start .args .text .now) (start .args .t4)) (c .answer .given .1) (start .pre)
+    subst (λ (answer : Answer). Writable (start .args .how .way) (start .args .how .at) answer (start .args .text .now) (start .args .t4)) (c .answer .given .1) (start .pre)
 
 enum-known-answer : tie.Need-enum-known-answer
 enum-known-answer c = search needs

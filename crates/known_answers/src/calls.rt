@@ -13,6 +13,7 @@ use crate::words::first;
 use crate::words::from;
 use placing::units::HalfUnits;
 use placing::units::Side;
+use placing::way::Way;
 use plan::calls::choose_at;
 use plan::calls::corner;
 use plan::calls::count;
@@ -74,8 +75,8 @@ fn lend(room: &mut [u8]) {
     }
 }
 
-// Finds the plan's side with a work table of this many bytes.
-fn found(plan: Plan, bytes: usize, room: &mut [u8], said: &mut [u8]) -> State
+// Finds the plan's side by a way with a work table of this many bytes.
+fn found(plan: Plan, way: Way, bytes: usize, room: &mut [u8], said: &mut [u8]) -> State
     requires { ⌜ Valid plan ⌝ }
     ensures { λ r. ⌜ Valid (r .plan) ⌝ }
 {
@@ -84,18 +85,18 @@ fn found(plan: Plan, bytes: usize, room: &mut [u8], said: &mut [u8]) -> State
     State {
         plan,
         lent: n,
-        said: put_side(said, find(plan, &mut room[..n])),
+        said: put_side(said, find(plan, way, &mut room[..n])),
     }
 }
 
-// Chooses at a side with a work table of this many bytes.
-fn chosen(plan: Plan, side: Side, bytes: usize, room: &mut [u8], said: &mut [u8]) -> State
+// Chooses by a way at a side with a work table of this many bytes.
+fn chosen(plan: Plan, way: Way, side: Side, bytes: usize, room: &mut [u8], said: &mut [u8]) -> State
     requires { ⌜ Valid plan ⌝ }
     ensures { λ r. ⌜ Valid (r .plan) ⌝ }
 {
     lend(room);
     let n = within(bytes, room);
-    after(choose_at(plan, side, &mut room[..n]), n, said)
+    after(choose_at(plan, way, side, &mut room[..n]), n, said)
 }
 
 // A number as a side, in range or not.
@@ -106,14 +107,14 @@ fn numbered(number: u64) -> Side {
     Side::Number(HalfUnits(4_294_967_295))
 }
 
-// Places the plan: finds its side and chooses there, with one work table.
-fn place(plan: Plan, table: &mut [u8]) -> Planned
+// Places the plan by a way: finds its side and chooses there, with one work table.
+fn place(plan: Plan, way: Way, table: &mut [u8]) -> Planned
     requires { ⌜ Valid plan ⌝ }
     ensures { λ r. ⌜ Valid (r .plan) ⌝ }
 {
-    let asked = find(plan, table);
+    let asked = find(plan, way, table);
     match asked {
-        AskedSide::SideIs(side) => choose_at(plan, side, table),
+        AskedSide::SideIs(side) => choose_at(plan, way, side, table),
         AskedSide::NoSide(why) => Planned {
             outcome: Outcome::Refused(why),
             plan,
@@ -121,14 +122,14 @@ fn place(plan: Plan, table: &mut [u8]) -> Planned
     }
 }
 
-// Places the plan with a work table of this many bytes.
-fn placed(plan: Plan, bytes: usize, room: &mut [u8], said: &mut [u8]) -> State
+// Places the plan by a way with a work table of this many bytes.
+fn placed(plan: Plan, way: Way, bytes: usize, room: &mut [u8], said: &mut [u8]) -> State
     requires { ⌜ Valid plan ⌝ }
     ensures { λ r. ⌜ Valid (r .plan) ⌝ }
 {
     lend(room);
     let n = within(bytes, room);
-    after(place(plan, &mut room[..n]), n, said)
+    after(place(plan, way, &mut room[..n]), n, said)
 }
 
 // Writes the plan into a buffer of this many bytes.
@@ -145,32 +146,33 @@ fn written(plan: Plan, bytes: usize, room: &mut [u8], said: &mut [u8]) -> State
     }
 }
 
-// The whole output for a text.
-fn put_output(text: &[u8], said: &mut [u8]) -> usize {
+// The whole output for a text, by a way.
+fn put_output(text: &[u8], way: Way, said: &mut [u8]) -> usize {
     let mut buffer = [0u8; TextLimits::SHEET];
-    let n = output(text, &mut buffer);
+    let n = output(text, way, &mut buffer);
     put_quoted(said, &buffer[..n])
 }
 
-// The whole output for a text at a side.
-fn put_output_at(text: &[u8], side: Side, said: &mut [u8]) -> usize {
+// The whole output for a text, by a way at a side.
+fn put_output_at(text: &[u8], way: Way, side: Side, said: &mut [u8]) -> usize {
     let mut buffer = [0u8; TextLimits::SHEET];
-    let n = output_at(text, side, &mut buffer);
+    let n = output_at(text, way, side, &mut buffer);
     put_quoted(said, &buffer[..n])
 }
 
 // The same where the side's word and a space stand in front of the text.
-fn put_output_behind(text: &[u8], said: &mut [u8]) -> usize {
+fn put_output_behind(text: &[u8], way: Way, said: &mut [u8]) -> usize {
     let space = first(text, b' ');
-    put_output_at(from(text, space + 1), side_from(&text[..space]), said)
+    put_output_at(from(text, space + 1), way, side_from(&text[..space]), said)
 }
 
 // The answer to a question that no plan is asked.
 fn put_other(question: Question, text: &[u8], said: &mut [u8]) -> usize {
     let call = question.call;
+    let way = question.way;
     match call {
-        Call::Output => put_output(text, said),
-        Call::OutputAt => put_output_behind(text, said),
+        Call::Output => put_output(text, way, said),
+        Call::OutputAt => put_output_behind(text, way, said),
         Call::Limit => put_number(said, limit(text)),
         Call::Names => put_names(said),
         _ => put_bytes(said, 0, b"no such call"),
@@ -207,14 +209,17 @@ pub fn answered(
     let call = question.call;
     let plan = state.plan;
     let lent = state.lent;
+    let way = question.way;
+    let a = question.a;
+    let b = question.b;
     match call {
-        Call::Enter => after(enter(plan, text, question.a, question.b), lent, said),
+        Call::Enter => after(enter(plan, text, a, b), lent, said),
         Call::Read => after(read(text), lent, said),
-        Call::Find => found(plan, question.a as usize, room, said),
-        Call::Choose => chosen(plan, side_from(text), question.a as usize, room, said),
-        Call::ChooseNumber => chosen(plan, numbered(question.a), question.b as usize, room, said),
-        Call::Place => placed(plan, question.a as usize, room, said),
-        Call::Write => written(plan, question.a as usize, room, said),
+        Call::Find => found(plan, way, a as usize, room, said),
+        Call::Choose => chosen(plan, way, side_from(text), a as usize, room, said),
+        Call::ChooseNumber => chosen(plan, way, numbered(a), b as usize, room, said),
+        Call::Place => placed(plan, way, a as usize, room, said),
+        Call::Write => written(plan, a as usize, room, said),
         _ => State {
             plan,
             lent,

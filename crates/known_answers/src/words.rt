@@ -53,6 +53,23 @@ pub fn number_in(text: &[u8]) -> u64 {
     number
 }
 
+fn is_in_numbers(byte: u8) -> bool {
+    match byte {
+        b' ' | b'0'..=b'9' => true,
+        _ => false,
+    }
+}
+
+// Whether a text has digits and spaces alone.
+pub fn are_numbers(text: &[u8]) -> bool {
+    for i in 0..text.len() {
+        if !is_in_numbers(text[i]) {
+            return false;
+        }
+    }
+    true
+}
+
 // What the byte behind a backslash stands for.
 fn escaped(byte: u8) -> u8 {
     match byte {

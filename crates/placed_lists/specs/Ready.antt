@@ -13,6 +13,7 @@ use lib.ListN.{length, take}
 use lib.Seq.{getD-take, length-take-le}
 use Rattle.placing.specs.declared.units.Place.{Place}
 use Rattle.placing.specs.declared.units.Side.{Side}
+use Rattle.placing.specs.declared.way.Way.{Way}
 use Rattle.placing.specs.rules.Units.{Axis, along, Distinct, InRange, OnPlan, siteAt, nowhere, freeSide}
 use Rattle.placing.specs.rules.Answer.{judgedAt}
 use Rattle.placing.specs.deciding.Answer.{answerOf}
@@ -118,7 +119,8 @@ ready-places {n} ready room =
           omega (arith, ready .few);
     }
 
--- The side found is one at which corners may be chosen.
-pub found-judged : {n : ℕ} {sites : List Place} {side : Side} → Ready n sites → side ≡ answerOf (take n sites) .side → judgedAt side ≤ freeSide
-found-judged {n} {sites} ready is =
-    rw is (judged-range (answerOf (take n sites) .side) (answer-chosen (answer-is (take n sites) (ready .distinct)) .given) .1)
+-- The side found by a way is one at which corners may be chosen.
+pub found-judged : (way : Way) {n : ℕ} {sites : List Place} {side : Side} → Ready n sites → side ≡ answerOf way (take n sites) .side
+    → judgedAt side ≤ freeSide
+found-judged way {n} {sites} ready is =
+    rw is (judged-range (answerOf way (take n sites) .side) (answer-chosen (answer-is way (take n sites) (ready .distinct)) .given) .1)

@@ -53,3 +53,12 @@ pub fn column() -> [Place; 240] {
     sites[2] = at(10, 20);
     sites
 }
+
+// Three sites in a row, the last further off.
+pub fn row() -> [Place; 240] {
+    let mut sites = [at(0, 0); 240];
+    sites[0] = at(0, 0);
+    sites[1] = at(3, 0);
+    sites[2] = at(10, 0);
+    sites
+}

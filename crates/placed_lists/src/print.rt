@@ -1,4 +1,4 @@
-// Placing a list and printing its line.
+// Placing a list by a way and printing its line.
 use crate::ready::ready;
 use placing::choice::Choice;
 use placing::place::choose_corners;
@@ -6,6 +6,7 @@ use placing::place::find_side;
 use placing::units::HalfUnits;
 use placing::units::Place;
 use placing::units::Side;
+use placing::way::Way;
 ghost use Prim.Native.Nat.{_≤_};
 ghost use Rattle.placing.specs.rules.Units.{freeSide};
 ghost use Rattle.placing.specs.rules.Answer.{judgedAt};
@@ -44,21 +45,21 @@ fn shown(n: usize) -> usize
     if n < 9 { n } else { 9 }
 }
 
-// The greatest side of the first `n` of these sites.
-fn found(sites: [Place; 240], n: usize) -> Side
+// The greatest side of the first `n` of these sites, by a way.
+fn found(sites: [Place; 240], n: usize, way: Way) -> Side
     requires { ⌜ Ready n sites ⌝ }
     ensures { λ r. ⌜ judgedAt r ≤ freeSide ⌝ }
 {
     let mut table = [0u8; 57600];
-    find_side(sites, n, &mut table)
+    find_side(sites, n, way, &mut table)
 }
 
 // Their first good choice at this side.
-fn chosen(sites: [Place; 240], n: usize, side: Side) -> Choice
+fn chosen(sites: [Place; 240], n: usize, way: Way, side: Side) -> Choice
     requires { ⌜ Ready n sites × (judgedAt side ≤ freeSide) ⌝ }
 {
     let mut table = [0u8; 57600];
-    choose_corners(sites, n, side, &mut table)
+    choose_corners(sites, n, way, side, &mut table)
 }
 
 // Prints a side and the first corners of the choice at it.
@@ -73,23 +74,23 @@ fn print_line(side: Side, choice: Choice, n: usize) {
     io::write_all(1, b"\n");
 }
 
-// Places the first `n` of these sites at the side found and prints their line.
-pub fn print_placed(sites: [Place; 240], n: usize) {
+// Places the first `n` of these sites by a way at the side found and prints their line.
+pub fn print_placed(sites: [Place; 240], n: usize, way: Way) {
     if ready(sites, n) {
-        let side = found(sites, n);
-        print_line(side, chosen(sites, n, side), n);
+        let side = found(sites, n, way);
+        print_line(side, chosen(sites, n, way, side), n);
     } else {
         io::write_all(1, b"not to be placed\n");
     }
 }
 
 // The same at a given side.
-pub fn print_chosen(sites: [Place; 240], n: usize, h: u32)
+pub fn print_chosen(sites: [Place; 240], n: usize, way: Way, h: u32)
     requires { ⌜ h ≤ 20000 ⌝ }
 {
     if ready(sites, n) {
         let side = Side::Number(HalfUnits(h));
-        print_line(side, chosen(sites, n, side), n);
+        print_line(side, chosen(sites, n, way, side), n);
     } else {
         io::write_all(1, b"not to be placed\n");
     }

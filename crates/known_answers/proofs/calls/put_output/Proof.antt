@@ -14,7 +14,7 @@ output-requires c κs = search needs
 array-share-prefix-buffer : tie.Need-array-share-prefix-buffer
 array-share-prefix-buffer c =
     let start = c .before .before .before .before .before in
-    output-within (outputOf (now (start .args .text))) _ (c .before .output .ensures .0) (c .before .output .ensures .1 .0)
+    output-within (outputOf (start .args .way) (now (start .args .text))) _ (c .before .output .ensures .0) (c .before .output .ensures .1 .0)
 
 slice-aggregate-put-quoted : tie.Need-slice-aggregate-put-quoted
 slice-aggregate-put-quoted c = sym (length-take-le _ _ (array-share-prefix-buffer (c .before)))

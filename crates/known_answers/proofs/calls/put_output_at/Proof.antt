@@ -14,7 +14,7 @@ output-at-requires c κs = search needs
 array-share-prefix-buffer : tie.Need-array-share-prefix-buffer
 array-share-prefix-buffer c =
     let start = c .before .before .before .before .before in
-    output-within (outputAt (start .args .side) (now (start .args .text))) _ (c .before .output-at .ensures .0) (c .before .output-at .ensures .1 .0)
+    output-within (outputAt (start .args .way) (start .args .side) (now (start .args .text))) _ (c .before .output-at .ensures .0) (c .before .output-at .ensures .1 .0)
 
 slice-aggregate-put-quoted : tie.Need-slice-aggregate-put-quoted
 slice-aggregate-put-quoted c = sym (length-take-le _ _ (array-share-prefix-buffer (c .before)))

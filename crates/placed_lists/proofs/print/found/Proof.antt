@@ -11,7 +11,7 @@ find-side-requires : tie.Need-find-side-requires
 find-side-requires c κs = ready-places (c .before .pre) (search needs)
 
 returns : tie.Need-returns
-returns c = found-judged (c .before .before .before .pre) (c .before .find-side .ensures .0)
+returns c = found-judged (c .before .before .before .args .way) (c .before .before .before .pre) (c .before .find-side .ensures .0)
 
 pub found-spec : {M : Type 1} → statement M
 found-spec = tie.close (tie.spec slice-aggregate-find-side find-side-requires returns)

@@ -1,5 +1,5 @@
--- What placing a list and writing its plan make of the list and a buffer, and what the number then tells: at the side found and at a
--- given side.
+-- What placing a list and writing its plan make of the list and a buffer, and what the number then tells: by a way or none, at the side
+-- found and at a given side.
 -- Assumes nothing.
 use mathlib.Core.Path.{_≡_, refl, sym, ap, _∙_, subst}
 use mathlib.Core.Bool.{Bool, true, false, _&&_}
@@ -14,6 +14,7 @@ use lib.ListN.{length, drop}
 use lib.Seq.{take-append-seam}
 use Rattle.placing.specs.declared.units.Side.{Side}
 use Rattle.placing.specs.declared.units.Side.the-variants.{Number}
+use Rattle.placing.specs.declared.way.Way.{Way}
 use Rattle.placing.specs.rules.Units.{greatestSide}
 use Rattle.placing.specs.rules.Answer.{Answer, isSide, IsChosen}
 use Rattle.placing.specs.deciding.Answer.{answerOf, chosenAt}
@@ -31,6 +32,7 @@ use Rattle.plan.specs.rules.List.{Site, placesOf}
 use Rattle.plan.specs.rules.Sheet.{sheetWith}
 use Rattle.plan.specs.rules.Calls.{lengthGiven, filledWith, bytesAfter}
 use Rattle.plan.specs.deciding.Output.{sheetOf, sheetAt, outputFor, outputOf, outputAt}
+use Rattle.plan.specs.calls.Lengths.{shortestSheet, shortestSheetAt}
 use Rattle.plan.specs.calls.Plan.{placedWith}
 use Rattle.plan.specs.calls.Answers.{started, handed, sheetFor, lengthWritten, writtenAnswer, writtenIn, bufferAfter, listPlaced, listPlacedAt}
 use Rattle.plan.specs.theorems.Tables.{number-small}
@@ -49,6 +51,8 @@ use Rattle.plan.specs.theorems.Output.{
   is-placed-at,
   text-to-place-at,
 }
+use Rattle.sheet_call.specs.declared.GivenWay.{GivenWay}
+use Rattle.sheet_call.specs.declared.GivenWay.the-variants.{By, NoWay}
 use Rattle.sheet_call.specs.Call.{
   Called,
   refusal,
@@ -58,11 +62,13 @@ use Rattle.sheet_call.specs.Call.{
   calledAt,
   freeNumber,
   sideOf,
+  wayOf,
   Asked,
+  byNoWay,
   atFound,
   atGiven,
   CallRefused,
-  refused-list,
+  is-refused,
   short-buffer,
   Told,
 }
@@ -98,20 +104,23 @@ write-calls planned buffer done answered left =
 -- ---- a list, placed with an answer for its sites and written
 
 -- What is to be placed of a list: a refusal, or sites for which this answer is chosen, with their sheet.
-data Ready (asked : Asked) (answer-of : List Site → Answer) : Result (List Site) → Type 0 where
-  not-ready : {why : Refusal} → asked .Refused (numberOf why) → Ready asked answer-of (refused why)
-  ready : {sites : List Site} → IsChosen (placesOf sites) (answer-of sites) → asked .IsSheet (sheetWith sites (answer-of sites))
-      → asked .shortest ≤ length (sheetWith sites (answer-of sites)) → Ready asked answer-of (accepted sites)
+data Ready (asked : Asked) (way : Way) (answer-of : List Site → Answer) : Result (List Site) → Type 0 where
+  not-ready : {why : Refusal} → asked .Refused (numberOf why) → Ready asked way answer-of (refused why)
+  ready : {sites : List Site} → IsChosen way (placesOf sites) (answer-of sites) → asked .IsSheet (sheetWith sites (answer-of sites))
+      → asked .shortest ≤ length (sheetWith sites (answer-of sites)) → Ready asked way answer-of (accepted sites)
 
 -- What the contract of a call says of a number and of the buffer afterwards.
-abbrev pub Meets : Asked → Called → (buffer : List ℕ) (number : ℕ) (after : List ℕ) → Type 0
+abbrev Meets : Asked → Called → (buffer : List ℕ) (number : ℕ) (after : List ℕ) → Type 0
 Meets asked called buffer number after = (number ≡ called .number) × ((after ≡ called .buffer) × Told asked buffer number after)
 
--- Refusals have numbers up to 12.
-module _ (asked : Asked) (small : 12 < asked .shortest) (answer-of : List Site → Answer) (buffer : List ℕ) where
-  abbrev sheet-of : List Site → List ℕ
-  sheet-of sites = sheetWith sites (answer-of sites)
+abbrev pub MeetsFound : (list buffer : List ℕ) (number : ℕ) (after : List ℕ) → GivenWay → Type 0
+MeetsFound list buffer number after way = Meets (atFound way list) (called way list buffer) buffer number after
 
+abbrev pub MeetsGiven : Side → (list buffer : List ℕ) (number : ℕ) (after : List ℕ) → GivenWay → Type 0
+MeetsGiven side list buffer number after way = Meets (atGiven way side list) (calledAt way side list buffer) buffer number after
+
+-- Refusals have numbers up to 12.
+module _ (asked : Asked) (small : 12 < asked .shortest) (buffer : List ℕ) where
   abbrev TellsOf : Called → Type 0
   TellsOf c = Told asked buffer (c .number) (c .buffer)
 
@@ -139,78 +148,105 @@ module _ (asked : Asked) (small : 12 < asked .shortest) (answer-of : List Site �
             refused = λ short. absurd (omega arith);
           }
 
-  -- The plan of sites that are placed with what is chosen for them has that sheet.
-  plan-sheet : (sites : List Site) → IsChosen (placesOf sites) (answer-of sites) → sheetFor (placedWith sites (answer-of sites)) ≡ sheet-of sites
-  unfolding sheetAt placedWith
-  plan-sheet sites chosen =
-      ap (λ (l : List Site). sheetWith l (chosenAt (answer-of sites .side) (placesOf l))) (sites-placed sites (answer-of sites))
-      ∙ ap (sheetWith sites) (sym (is-chosen-at chosen))
+  module _ (way : Way) (answer-of : List Site → Answer) where
+    abbrev sheet-of : List Site → List ℕ
+    sheet-of sites = sheetWith sites (answer-of sites)
 
-  -- So what comes of writing it is the call.
-  planned-calls : {placing : Result (List Site)} → Ready asked answer-of placing
-      → plannedIn (handed (λ sites. placedWith sites (answer-of sites)) started placing) buffer ≡ calledFor sheet-of placing buffer
-  unfolding placedWith
-  planned-calls (not-ready reason) = refl
-  planned-calls (ready {sites} chosen is-sheet long) =
-      ap (λ (sheet : List ℕ). sheetIn (lengthGiven true sheet buffer) sheet buffer) (plan-sheet sites chosen)
+    abbrev plan-of : List Site → Plan
+    plan-of sites = placedWith sites way (answer-of sites)
 
-  calls-told : {placing : Result (List Site)} → asked .output ≡ outputFor sheet-of placing → Ready asked answer-of placing
-      → TellsOf (calledFor sheet-of placing buffer)
-  calls-told output-is (not-ready {why} reason) = refusal-told why (refused-list reason)
-  calls-told output-is (ready {sites} chosen is-sheet long) = sheet-told (sheet-of sites) output-is is-sheet long
+    -- The plan of sites that are placed with what is chosen for them has that sheet.
+    plan-sheet : (sites : List Site) → IsChosen way (placesOf sites) (answer-of sites) → sheetFor (plan-of sites) ≡ sheet-of sites
+    unfolding sheetAt placedWith
+    plan-sheet sites chosen =
+        ap (λ (l : List Site). sheetWith l (chosenAt way (answer-of sites .side) (placesOf l))) (sites-placed sites way (answer-of sites))
+        ∙ ap (sheetWith sites) (sym (is-chosen-at chosen))
 
-  -- It meets the contract.
-  planned-meets : {placing : Result (List Site)} {done : Planned} {number : ℕ} {after : List ℕ} → asked .output ≡ outputFor sheet-of placing
-      → Ready asked answer-of placing → done ≡ handed (λ sites. placedWith sites (answer-of sites)) started placing
-      → number ≡ plannedIn done buffer .number → after ≡ plannedIn done buffer .buffer
-      → Meets asked (calledFor sheet-of placing buffer) buffer number after
-  planned-meets {placing} output-is is-ready done-is number-is after-is =
-      let is = ap (λ (p : Planned). plannedIn p buffer) done-is ∙ planned-calls is-ready in
-      let number-so = number-is ∙ ap (λ (c : Called). c .number) is in
-      let after-so = after-is ∙ ap (λ (c : Called). c .buffer) is in
-      (number-so, (after-so, rw (number-so, after-so) (calls-told output-is is-ready)))
+    -- So what comes of writing it is the call.
+    planned-calls : {placing : Result (List Site)} → Ready asked way answer-of placing
+        → plannedIn (handed plan-of started placing) buffer ≡ calledFor sheet-of placing buffer
+    unfolding placedWith
+    planned-calls (not-ready reason) = refl
+    planned-calls (ready {sites} chosen is-sheet long) =
+        ap (λ (sheet : List ℕ). sheetIn (lengthGiven true sheet buffer) sheet buffer) (plan-sheet sites chosen)
+
+    calls-told : {placing : Result (List Site)} → asked .output ≡ outputFor sheet-of placing → Ready asked way answer-of placing
+        → TellsOf (calledFor sheet-of placing buffer)
+    calls-told output-is (not-ready {why} reason) = refusal-told why (is-refused reason)
+    calls-told output-is (ready {sites} chosen is-sheet long) = sheet-told (sheet-of sites) output-is is-sheet long
+
+    -- It meets the contract.
+    planned-meets : {placing : Result (List Site)} {done : Planned} {number : ℕ} {after : List ℕ} → asked .output ≡ outputFor sheet-of placing
+        → Ready asked way answer-of placing → done ≡ handed plan-of started placing
+        → number ≡ plannedIn done buffer .number → after ≡ plannedIn done buffer .buffer
+        → Meets asked (calledFor sheet-of placing buffer) buffer number after
+    planned-meets {placing} output-is is-ready done-is number-is after-is =
+        let is = ap (λ (p : Planned). plannedIn p buffer) done-is ∙ planned-calls is-ready in
+        let number-so = number-is ∙ ap (λ (c : Called). c .number) is in
+        let after-so = after-is ∙ ap (λ (c : Called). c .buffer) is in
+        (number-so, (after-so, rw (number-so, after-so) (calls-told output-is is-ready)))
 
 -- ---- the two calls
 
 -- At the side found,
-pub call-meets : (list buffer : List ℕ) {done : Planned} {number : ℕ} {after : List ℕ} → done ≡ listPlaced list
-    → number ≡ plannedIn done buffer .number → after ≡ plannedIn done buffer .buffer → Meets (atFound list) (called list buffer) buffer number after
+pub call-meets : (way : Way) (list buffer : List ℕ) {done : Planned} {number : ℕ} {after : List ℕ} → done ≡ listPlaced way list
+    → number ≡ plannedIn done buffer .number → after ≡ plannedIn done buffer .buffer
+    → MeetsFound list buffer number after (By way)
 unfolding sheetOf outputOf
-call-meets list buffer =
-    planned-meets (atFound list) (omega arith) (λ sites. answerOf (placesOf sites)) buffer refl (by-sites (text-to-place list))
+call-meets way list buffer =
+    planned-meets (atFound (By way) list) (omega arith) buffer way (λ sites. answerOf way (placesOf sites)) refl (by-sites (text-to-place list))
   where
-    by-sites : {placing : Result (List Site)} → ToPlace list placing → Ready (atFound list) (λ sites. answerOf (placesOf sites)) placing
+    by-sites : {placing : Result (List Site)} → ToPlace list placing
+        → Ready (atFound (By way) list) way (λ sites. answerOf way (placesOf sites)) placing
     by-sites (not-placed reason) = not-ready reason
     by-sites (to-be-placed {sites} accepts) =
         let listed = read-listed list sites (reads-are (accepts .read)) in
-        ready (answer-listed sites listed) (sheet-for list sites accepts) (sheet-shortest sites listed (accepts .some-sites))
+        ready (answer-listed way sites listed) (sheet-for way list sites accepts) (sheet-shortest way sites listed (accepts .some-sites))
 
--- and at a given side.
-pub call-meets-at : (side : Side) (list buffer : List ℕ) {done : Planned} {number : ℕ} {after : List ℕ} → done ≡ listPlacedAt side list
-    → number ≡ plannedIn done buffer .number → after ≡ plannedIn done buffer .buffer
-    → Meets (atGiven side list) (calledAt side list buffer) buffer number after
+-- at a given side,
+pub call-meets-at : (way : Way) (side : Side) (list buffer : List ℕ) {done : Planned} {number : ℕ} {after : List ℕ}
+    → done ≡ listPlacedAt way side list → number ≡ plannedIn done buffer .number → after ≡ plannedIn done buffer .buffer
+    → MeetsGiven side list buffer number after (By way)
 unfolding sheetAt outputAt chosenAt
-call-meets-at side list buffer =
-    planned-meets (atGiven side list) (omega arith) (λ sites. chosenAt side (placesOf sites)) buffer refl (by-sites (text-to-place-at side list))
+call-meets-at way side list buffer =
+    planned-meets (atGiven (By way) side list) (omega arith) buffer way (λ sites. chosenAt way side (placesOf sites)) refl
+    (by-sites (text-to-place-at way side list))
   where
-    by-sites : {placing : Result (List Site)} → ToPlaceAt side list placing
-        → Ready (atGiven side list) (λ sites. chosenAt side (placesOf sites)) placing
+    by-sites : {placing : Result (List Site)} → ToPlaceAt way side list placing
+        → Ready (atGiven (By way) side list) way (λ sites. chosenAt way side (placesOf sites)) placing
     by-sites (not-placed-at reason) = not-ready reason
     by-sites (is-placed-at {sites} accepts chosen) =
         let listed = read-listed list sites (reads-are (accepts .read)) in
         ready chosen (sheet-for-at list sites accepts chosen) (sheet-shortest-at sites listed (accepts .some-sites) chosen)
 
--- ---- the numbers that stand for no side
+-- and without a way.
+no-way-meets : {number : ℕ} (shortest : ℕ) → 12 < shortest → (buffer : List ℕ) → number ≡ 3
+    → Meets (byNoWay shortest) (refusal BadNumber buffer) buffer number buffer
+no-way-meets shortest small buffer is =
+    (is, (refl, rw is (refusal-told (byNoWay shortest) small buffer BadNumber (is-refused refl))))
 
--- A side outside the range is refused with 3, whatever the list.
-side-refused : (side : Side) (list buffer : List ℕ) → isSide side ≡ false → calledAt side list buffer ≡ refusal BadNumber buffer
-side-refused side list buffer outside = rw outside
+pub no-way-found : {number : ℕ} (list buffer : List ℕ) → number ≡ 3 → MeetsFound list buffer number buffer NoWay
+no-way-found list = no-way-meets shortestSheet (omega arith)
 
--- So are the numbers below 1 and above 20,000, but for that of free.
-pub no-side : (number : ℕ) (list buffer : List ℕ) → (number ≡ freeNumber → ⊥) → (number < 1) ⊎ (greatestSide < number)
-    → calledAt (sideOf number) list buffer ≡ refusal BadNumber buffer
-no-side number list buffer not-free outside =
-    side-refused (sideOf number) list buffer
+pub no-way-given : {number : ℕ} (side : Side) (list buffer : List ℕ) → number ≡ 3 → MeetsGiven side list buffer number buffer NoWay
+no-way-given side list = no-way-meets shortestSheetAt (omega arith)
+
+-- ---- the numbers that stand for no way or no side
+
+-- Numbers but 1 and 2 are refused with 3, whatever the list,
+pub no-way : (number : ℕ) → (number ≡ 1 → ⊥) → (number ≡ 2 → ⊥) → wayOf number ≡ NoWay
+no-way number not-usual not-above = rw (ne-eqb number 1 not-usual, ne-eqb number 2 not-above, wayOf)
+
+-- and so is a side outside the range, whatever the way.
+side-refused : (way : GivenWay) (side : Side) (list buffer : List ℕ) → isSide side ≡ false → calledAt way side list buffer ≡ refusal BadNumber buffer
+side-refused (By way) side list buffer outside = rw outside
+side-refused NoWay side list buffer outside = refl
+
+-- Such are the numbers below 1 and above 20,000, but for that of free.
+pub no-side : (way : GivenWay) (number : ℕ) (list buffer : List ℕ) → (number ≡ freeNumber → ⊥) → (number < 1) ⊎ (greatestSide < number)
+    → calledAt way (sideOf number) list buffer ≡ refusal BadNumber buffer
+no-side way number list buffer not-free outside =
+    side-refused way (sideOf number) list buffer
     (rw (ne-eqb number freeNumber not-free, sideOf) (is-outside outside))
   where
     by-least : (least : Bool) → (least && false) ≡ false

@@ -1,17 +1,20 @@
-// For callers in C and Rust: from the bytes of a list to the bytes of its sheet in one call, at the side found or at a given side.
+// For callers in C and Rust: from the bytes of a list to the bytes of its sheet in one call, by a way of placing, at the side found or at
+// a given side.
 // `callers/lemoncanyon.h` declares the calls.
 use placing::units::HalfUnits;
 use placing::units::Side;
+use placing::way::Way;
 use plan::output::place_list;
 use plan::output::place_list_at;
 use plan::plan::Planned;
 use plan::plan::Written;
 use plan::refusal::Outcome;
+use plan::refusal::Refusal;
 use plan::refusal::number_of;
 use plan::sheet::write;
 ghost use mathlib.Core.Path.{_≡_};
 ghost use Rattle.plan.specs.calls.Plan.{Valid};
-ghost use Rattle.sheet_call.specs.Call.{called, calledAt, sideOf, atFound, atGiven, Told};
+ghost use Rattle.sheet_call.specs.Call.{called, calledAt, sideOf, wayOf, atFound, atGiven, Told};
 ghost use Rattle.sheet_call.specs.CallLaws.{plannedIn};
 
 // The number that stands for free where a side is given.
@@ -25,6 +28,29 @@ fn side_of(number: u32) -> Side
         return Side::Free;
     }
     Side::Number(HalfUnits(number))
+}
+
+// The numbers that stand for the ways.
+const USUAL: u32 = 1;
+
+const ABOVE: u32 = 2;
+
+enum GivenWay {
+    By(Way),
+    NoWay,
+}
+
+// The way that a number stands for.
+fn way_of(number: u32) -> GivenWay
+    ensures { λ r. ⌜ r ≡ wayOf number ⌝ }
+{
+    if number == USUAL {
+        return GivenWay::By(Way::Usual);
+    }
+    if number == ABOVE {
+        return GivenWay::By(Way::Above);
+    }
+    GivenWay::NoWay
 }
 
 // Writes the sheet of a list that was placed into the buffer and gives its length; or gives the number of the refusal.
@@ -46,26 +72,31 @@ fn write_planned(planned: Planned, buffer: &mut [u8]) -> usize
 }
 
 // The length of the list's sheet, which then stands at the front of the buffer; or the number of the refusal, below 18, with the
-// buffer as it came.
+// buffer as it came. A number that stands for no way is refused before the list is read.
 #[no_mangle]
-pub extern "C" fn lemoncanyon_sheet(list: &[u8], buffer: &mut [u8]) -> usize
-    ensures answer { λ r. ⌜ r ≡ called (now (list .entry)) (now (buffer .entry)) .number ⌝ }
-    ensures buffer { λ r. ⌜ now (buffer .exit) ≡ called (now (list .entry)) (now (buffer .entry)) .buffer ⌝ }
-    ensures told { λ r. ⌜ Told (atFound (now (list .entry))) (now (buffer .entry)) r (now (buffer .exit)) ⌝ }
+pub extern "C" fn lemoncanyon_sheet(list: &[u8], way: u32, buffer: &mut [u8]) -> usize
+    ensures answer { λ r. ⌜ r ≡ called (wayOf way) (now (list .entry)) (now (buffer .entry)) .number ⌝ }
+    ensures buffer { λ r. ⌜ now (buffer .exit) ≡ called (wayOf way) (now (list .entry)) (now (buffer .entry)) .buffer ⌝ }
+    ensures told { λ r. ⌜ Told (atFound (wayOf way) (now (list .entry))) (now (buffer .entry)) r (now (buffer .exit)) ⌝ }
 {
-    let placed = place_list(list);
+    let GivenWay::By(given) = way_of(way) else {
+        return number_of(Refusal::BadNumber) as usize;
+    };
+    let placed = place_list(list, given);
     write_planned(placed, buffer)
 }
 
 // The same at a given side, in half units, or at free: the length of the sheet, or the number of the refusal, below 15. A number that
-// stands for no side is refused before the list is read.
+// stands for no side is refused before the list is read, too.
 #[no_mangle]
-pub extern "C" fn lemoncanyon_sheet_at(list: &[u8], side: u32, buffer: &mut [u8]) -> usize
-    ensures answer { λ r. ⌜ r ≡ calledAt (sideOf side) (now (list .entry)) (now (buffer .entry)) .number ⌝ }
-    ensures buffer { λ r. ⌜ now (buffer .exit) ≡ calledAt (sideOf side) (now (list .entry)) (now (buffer .entry)) .buffer ⌝ }
-    ensures told { λ r. ⌜ Told (atGiven (sideOf side) (now (list .entry))) (now (buffer .entry)) r (now (buffer .exit)) ⌝ }
+pub extern "C" fn lemoncanyon_sheet_at(list: &[u8], way: u32, side: u32, buffer: &mut [u8]) -> usize
+    ensures answer { λ r. ⌜ r ≡ calledAt (wayOf way) (sideOf side) (now (list .entry)) (now (buffer .entry)) .number ⌝ }
+    ensures buffer { λ r. ⌜ now (buffer .exit) ≡ calledAt (wayOf way) (sideOf side) (now (list .entry)) (now (buffer .entry)) .buffer ⌝ }
+    ensures told { λ r. ⌜ Told (atGiven (wayOf way) (sideOf side) (now (list .entry))) (now (buffer .entry)) r (now (buffer .exit)) ⌝ }
 {
-    let given = side_of(side);
-    let placed = place_list_at(list, given);
+    let GivenWay::By(given) = way_of(way) else {
+        return number_of(Refusal::BadNumber) as usize;
+    };
+    let placed = place_list_at(list, given, side_of(side));
     write_planned(placed, buffer)
 }

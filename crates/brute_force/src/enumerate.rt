@@ -1,4 +1,4 @@
-// The answer to a small list by trying every list of corners, from the rules of document 01 alone.
+// The answer to a small list by trying every list of corners that a way has, from the rules of documents 01 and 02 alone.
 //
 // Each rule forbids the sides above some number, the limit. So a list of corners is good at h exactly when h is at most the least of
 // its limits, and the greatest side with a good choice is the greatest of these over all lists of corners.
@@ -6,12 +6,21 @@ use crate::sites::Answer;
 use crate::sites::FREE;
 use crate::sites::Place;
 use crate::sites::Sites;
+use placing::way::Way;
 ghost use Prim.Native.Nat.{_≤_, _<_};
 
 // The limit where a rule forbids no side. Every other limit is at most 20,000.
 const NO_LIMIT: u64 = 1_000_000;
 
 const POWERS_OF_4: [u64; 8] = [1, 4, 16, 64, 256, 1_024, 4_096, 16_384];
+
+const POWERS_OF_2: [u64; 8] = [1, 2, 4, 8, 16, 32, 64, 128];
+
+// Which lists of corners are good: of corners 1 to `last`, with no two labels that meet and, where crowding counts, no crowded corner.
+struct Rules {
+    last: u64,
+    crowding: bool,
+}
 
 // A list of corners and its limit.
 struct Choice {
@@ -55,7 +64,7 @@ fn rise(from: u32, to: u32) -> u64 {
 }
 
 // Same direction: two labels overlap along the axis exactly when h > 2 × |d|.
-pub fn same_way(a: u32, b: u32) -> u64 {
+pub fn same_direction(a: u32, b: u32) -> u64 {
     if a < b {
         2 * ((b - a) as u64)
     } else {
@@ -67,9 +76,17 @@ pub fn same_way(a: u32, b: u32) -> u64 {
 // that goes down the axis minus the place of the one that goes up it; they overlap exactly when d ≥ 0 and h > d.
 fn overlap_limit(a: u32, a_up: bool, b: u32, b_up: bool) -> u64 {
     if a_up {
-        if b_up { same_way(a, b) } else { rise(a, b) }
+        if b_up {
+            same_direction(a, b)
+        } else {
+            rise(a, b)
+        }
     } else {
-        if b_up { rise(b, a) } else { same_way(a, b) }
+        if b_up {
+            rise(b, a)
+        } else {
+            same_direction(a, b)
+        }
     }
 }
 
@@ -126,49 +143,69 @@ fn site_limit(sites: Sites, corners: [u8; 7], i: usize, crowding: bool) -> u64
     least
 }
 
-// The limit of a list of corners. Where it is not above `above`, some number not above `above`.
-fn choice_limit(sites: Sites, corners: [u8; 7], crowding: bool, above: u64) -> u64
+// The limit of a list of corners. Where it is not above `floor`, some number not above `floor`.
+fn choice_limit(sites: Sites, corners: [u8; 7], crowding: bool, floor: u64) -> u64
     requires { ⌜ sites .n ≤ 7 ⌝ }
 {
     let n = sites.n;
     let mut least = NO_LIMIT;
     for i in 0..n {
         least = lesser(least, site_limit(sites, corners, i, crowding));
-        if least <= above {
+        if least <= floor {
             return least;
         }
     }
     least
 }
 
-// The list of corners with this number in list order, from 0: the last site's corner changes fastest.
-fn nth_corners(number: u64, n: usize) -> [u8; 7]
-    requires { ⌜ n ≤ 7 ⌝ }
+// The rules of a way: those of document 01; above, document 02, L2: "any choice of 1 and 2 without meeting labels counts".
+fn rules_of(way: Way) -> Rules
+    ensures { λ r. ⌜ (1 ≤ r .last) × (r .last ≤ 4) ⌝ }
+{
+    match way {
+        Way::Usual => Rules {
+            last: 4,
+            crowding: true,
+        },
+        Way::Above => Rules {
+            last: 2,
+            crowding: false,
+        },
+    }
+}
+
+// The list of corners 1 to `last` with this number in list order, from 0: the last site's corner changes fastest.
+fn nth_corners(number: u64, n: usize, last: u64) -> [u8; 7]
+    requires { ⌜ (n ≤ 7) × (1 ≤ last) × (last ≤ 4) ⌝ }
 {
     let mut corners = [0u8; 7];
     let mut rest = number;
     let mut i = n;
     while 0 < i {
         i -= 1;
-        corners[i] = (rest % 4) as u8 + 1;
-        rest /= 4;
+        corners[i] = (rest % last) as u8 + 1;
+        rest /= last;
     }
     corners
 }
 
-// How many lists of corners `n` sites have.
-fn choices(n: usize) -> u64
+// How many lists of corners 1 to `last`, 4 or 2, `n` sites have.
+fn choices(n: usize, last: u64) -> u64
     requires { ⌜ n ≤ 7 ⌝ }
 {
-    POWERS_OF_4[n]
+    if last == 4 {
+        POWERS_OF_4[n]
+    } else {
+        POWERS_OF_2[n]
+    }
 }
 
 // The choice with this number where its limit is above that of `best`, and `best` elsewhere.
-fn better(sites: Sites, crowding: bool, number: u64, best: Choice) -> Choice
-    requires { ⌜ sites .n ≤ 7 ⌝ }
+fn better(sites: Sites, rules: Rules, number: u64, best: Choice) -> Choice
+    requires { ⌜ (sites .n ≤ 7) × (1 ≤ rules .last) × (rules .last ≤ 4) ⌝ }
 {
-    let corners = nth_corners(number, sites.n);
-    let limit = choice_limit(sites, corners, crowding, best.limit);
+    let corners = nth_corners(number, sites.n, rules.last);
+    let limit = choice_limit(sites, corners, rules.crowding, best.limit);
     if limit <= best.limit {
         return best;
     }
@@ -178,27 +215,27 @@ fn better(sites: Sites, crowding: bool, number: u64, best: Choice) -> Choice
     }
 }
 
-// Of all lists of corners with a limit above `above`, the first with the greatest limit. Where there is none the limit is `above`.
-fn best_choice(sites: Sites, crowding: bool, above: u64) -> Choice
-    requires { ⌜ sites .n ≤ 7 ⌝ }
+// Of all lists of corners with a limit above `floor`, the first with the greatest limit. Where there is none the limit is `floor`.
+fn best_choice(sites: Sites, rules: Rules, floor: u64) -> Choice
+    requires { ⌜ (sites .n ≤ 7) × (1 ≤ rules .last) × (rules .last ≤ 4) ⌝ }
 {
-    let end = choices(sites.n);
+    let end = choices(sites.n, rules.last);
     let mut best = Choice {
-        limit: above,
+        limit: floor,
         corners: [0u8; 7],
     };
     for number in 0..end {
-        best = better(sites, crowding, number, best);
+        best = better(sites, rules, number, best);
     }
     best
 }
 
-// The answer of document 01: the greatest side that has a good choice, or free, with the first good choice there.
-pub fn enumerate(sites: Sites) -> Answer
+// The answer by a way: the greatest side that has a good choice, or free, with the first good choice there.
+pub fn enumerate(sites: Sites, way: Way) -> Answer
     requires { ⌜ sites .n ≤ 7 ⌝ }
     ensures { λ r. ⌜ r .side ≤ 20001 ⌝ }
 {
-    let best = best_choice(sites, true, 0);
+    let best = best_choice(sites, rules_of(way), 0);
     let corners = best.corners;
     Answer {
         side: lesser(best.limit, FREE),
@@ -206,14 +243,15 @@ pub fn enumerate(sites: Sites) -> Answer
     }
 }
 
-// The answer at a given side: the first list of corners that is good there.
-pub fn enumerate_at(sites: Sites, side: u64) -> Answer
+// The answer by a way at a given side: the first list of corners that is good there.
+pub fn enumerate_at(sites: Sites, way: Way, side: u64) -> Answer
     requires { ⌜ (sites .n ≤ 7) × (1 ≤ side) ⌝ }
 {
-    let end = choices(sites.n);
+    let rules = rules_of(way);
+    let end = choices(sites.n, rules.last);
     for number in 0..end {
-        let corners = nth_corners(number, sites.n);
-        if side <= choice_limit(sites, corners, true, side - 1) {
+        let corners = nth_corners(number, sites.n, rules.last);
+        if side <= choice_limit(sites, corners, rules.crowding, side - 1) {
             return Answer { side, corners };
         }
     }
@@ -223,10 +261,14 @@ pub fn enumerate_at(sites: Sites, side: u64) -> Answer
     }
 }
 
-// Some list of corners has no two labels that meet at 2 × side + 1; crowding plays no part.
-pub fn holds_above_twice(sites: Sites, side: u64) -> bool
+// Some list of the four corners has no two labels that meet at 2 × side + 1; crowding plays no part.
+pub fn holds_over_twice(sites: Sites, side: u64) -> bool
     requires { ⌜ (sites .n ≤ 7) × (side ≤ 20001) ⌝ }
 {
-    let best = best_choice(sites, false, 2 * side);
+    let crowded_or_not = Rules {
+        last: 4,
+        crowding: false,
+    };
+    let best = best_choice(sites, crowded_or_not, 2 * side);
     2 * side < best.limit
 }

@@ -1,8 +1,10 @@
-// The sides to give for a list: some around the distance of its first two sites, some around its own side, and free. Where two labels
-// begin to meet, or a label to crowd a site, another choice may be the first.
+// The sides to give for a list by a way: some around the distance of its first two sites, some around the side that it has that way, and
+// free. Where two labels begin to meet, or a label to crowd a site, another choice may be the first. The product has to refuse the side
+// next above its own. Above, where its side is exact for fractions too, no more is to be tried: the limits are whole numbers, so what
+// holds at a fraction above a side holds at the next side.
 use crate::enumerate::greater;
 use crate::enumerate::lesser;
-use crate::enumerate::same_way;
+use crate::enumerate::same_direction;
 use crate::sites::FREE;
 use crate::sites::Sites;
 ghost use Prim.Native.Nat.{_≤_};
@@ -17,7 +19,10 @@ fn twice_apart(sites: Sites) -> u64
     let places = sites.places;
     let a = places[0];
     let b = places[1];
-    lesser(greater(same_way(a.x, b.x), same_way(a.y, b.y)), 20_000)
+    lesser(
+        greater(same_direction(a.x, b.x), same_direction(a.y, b.y)),
+        20_000,
+    )
 }
 
 // The nearest side from 1 to 20,000, or FREE.

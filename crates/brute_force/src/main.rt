@@ -1,5 +1,5 @@
-// Random small lists, each answered by the product and by enumeration, at the side found and at given sides. The sheets are compared,
-// and the counts printed; then the same with answers that are meant to come out wrong.
+// Random small lists, each answered by the product and by enumeration, both ways, at the side found and at given sides. The sheets are
+// compared, and the counts printed; then the same with answers that are meant to come out wrong.
 mod counts;
 mod enumerate;
 mod given;
@@ -12,8 +12,8 @@ mod text;
 mod trial;
 mod wrong;
 
-use crate::counts::Counts;
-use crate::counts::print_counts;
+use crate::counts::Tally;
+use crate::counts::print_tally;
 use crate::random::SEED;
 use crate::trial::trial;
 use crate::wrong::print_wrong;
@@ -22,10 +22,10 @@ const LISTS: u32 = 4_000;
 
 fn main() {
     let mut state = SEED;
-    let mut counts = Counts::none();
+    let mut tally = Tally::none();
     for _ in 0..LISTS {
-        counts = trial(&mut state, counts);
+        tally = trial(&mut state, tally);
     }
-    print_counts(counts);
+    print_tally(tally);
     print_wrong();
 }

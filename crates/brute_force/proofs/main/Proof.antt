@@ -5,10 +5,10 @@ use Rattle.brute_force.proofs.main.Statement.{statement}
 use Rattle.brute_force.proofs.main.Tie as tie
 
 abbrev Inv-loop : tie.InvT-loop
-Inv-loop state₀ counts₀ counter₀ state counts counter = counter ≤ 4000
+Inv-loop state₀ tally₀ counter₀ state tally counter = counter ≤ 4000
 
 abbrev μ-loop : tie.MeasureT-loop
-μ-loop state₀ counts₀ counter₀ state counts counter = 4000 - counter
+μ-loop state₀ tally₀ counter₀ state tally counter = 4000 - counter
 
 none-requires : tie.Need-none-requires Inv-loop μ-loop
 none-requires c κs = search needs
@@ -28,8 +28,8 @@ loop-less c = search needs
 loop-again : tie.Need-loop-again Inv-loop μ-loop
 loop-again c = search needs
 
-print-counts-requires : tie.Need-print-counts-requires Inv-loop μ-loop
-print-counts-requires c κs = search needs
+print-tally-requires : tie.Need-print-tally-requires Inv-loop μ-loop
+print-tally-requires c κs = search needs
 
 print-wrong-requires : tie.Need-print-wrong-requires Inv-loop μ-loop
 print-wrong-requires c κs = search needs
@@ -49,6 +49,6 @@ main-spec =
     add-counter
     loop-less
     loop-again
-    print-counts-requires
+    print-tally-requires
     print-wrong-requires
     returns)

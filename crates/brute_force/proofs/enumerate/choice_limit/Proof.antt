@@ -5,10 +5,10 @@ use Rattle.brute_force.proofs.enumerate.choice_limit.Statement.{stateme
 use Rattle.brute_force.proofs.enumerate.choice_limit.Tie as tie
 
 abbrev Inv-loop : tie.InvT-loop
-Inv-loop sites corners crowding above n least₀ i₀ least i = i ≤ n
+Inv-loop sites corners crowding floor n least₀ i₀ least i = i ≤ n
 
 abbrev μ-loop : tie.MeasureT-loop
-μ-loop sites corners crowding above n least₀ i₀ least i = n - i
+μ-loop sites corners crowding floor n least₀ i₀ least i = n - i
 
 loop-holds : tie.Need-loop-holds Inv-loop μ-loop
 loop-holds c = search needs

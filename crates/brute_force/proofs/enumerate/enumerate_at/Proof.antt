@@ -5,10 +5,13 @@ use Rattle.brute_force.proofs.enumerate.enumerate_at.Statement.{stateme
 use Rattle.brute_force.proofs.enumerate.enumerate_at.Tie as tie
 
 abbrev Inv-loop : tie.InvT-loop
-Inv-loop sites side end number₀ number = number ≤ end
+Inv-loop sites side rules end number₀ number = number ≤ end
 
 abbrev μ-loop : tie.MeasureT-loop
-μ-loop sites side end number₀ number = end - number
+μ-loop sites side rules end number₀ number = end - number
+
+rules-of-requires : tie.Need-rules-of-requires Inv-loop μ-loop
+rules-of-requires c κs = search needs
 
 choices-requires : tie.Need-choices-requires Inv-loop μ-loop
 choices-requires c κs = search needs
@@ -46,6 +49,7 @@ enumerate-at-spec =
     (tie.spec
     Inv-loop
     μ-loop
+    rules-of-requires
     choices-requires
     loop-holds
     nth-corners-requires

@@ -5,10 +5,10 @@ use Rattle.brute_force.proofs.trial.judged_given.Statement.{statement}
 use Rattle.brute_force.proofs.trial.judged_given.Tie as tie
 
 abbrev Inv-loop : tie.InvT-loop
-Inv-loop sites side after₀ k₀ after k = k ≤ 7
+Inv-loop sites way side after₀ k₀ after k = k ≤ 7
 
 abbrev μ-loop : tie.MeasureT-loop
-μ-loop sites side after₀ k₀ after k = 7 - k
+μ-loop sites way side after₀ k₀ after k = 7 - k
 
 returns : tie.Need-returns Inv-loop μ-loop
 returns c = search needs

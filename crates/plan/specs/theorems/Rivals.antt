@@ -1,5 +1,5 @@
 -- Demand 3 in the picture: whoever takes a side above twice the number that a sheet prints draws two labels that cover a common point; with
--- corners 1 and 2 on a sheet above, so does whoever takes a side above the number itself.
+-- corners 1 and 2 on a sheet above, so does whoever takes a side above the number itself. A sheet's own labels do not where it is free.
 -- Assumes nothing.
 use mathlib.Core.Path.{_≡_, _∙_, ap, subst}
 use mathlib.Core.List.{List}
@@ -10,6 +10,7 @@ use native.Mathlib.Omega.{arith}
 use lib.ListN.{length, take}
 use Rattle.placing.specs.declared.units.Place.{Place}
 use Rattle.placing.specs.declared.units.Side.{Side}
+use Rattle.placing.specs.declared.units.Side.the-variants.{Free}
 use Rattle.placing.specs.declared.way.Way.{Way}
 use Rattle.placing.specs.declared.way.Way.the-variants.{Usual, Above}
 use Rattle.placing.specs.rules.Units.{siteAt, Distinct}
@@ -34,7 +35,7 @@ pub record CommonPoint (p q : ℕ) (ps : List Place) (cs : List ℕ) : Type 0 wh
   pub by-first : Covers p q (siteAt ps first) (cornerAt cs first) point
   pub by-second : Covers p q (siteAt ps second) (cornerAt cs second) point
 
--- Two labels that meet do.
+-- Two labels that meet do,
 meeting-common : {p q : ℕ} {ps : List Place} {cs : List ℕ} → 1 ≤ p → 1 ≤ q → Distinct ps → MeetingPair p q ps cs → CommonPoint p q ps cs
 meeting-common {p} {q} some-p some-q places pair =
     let differ = places .distinct (pair .first) (pair .second) (pair .first-listed) (pair .second-listed) (pair .different) in
@@ -48,6 +49,19 @@ meeting-common {p} {q} some-p some-q places pair =
       point = common .0;
       by-first = common .1;
       by-second = common .2;
+    }
+
+-- and two that do meet.
+common-meeting : {p q : ℕ} {ps : List Place} {cs : List ℕ} → 1 ≤ p → 1 ≤ q → Distinct ps → CommonPoint p q ps cs → MeetingPair p q ps cs
+common-meeting {p} {q} some-p some-q places common =
+    let differ = places .distinct (common .first) (common .second) (common .first-listed) (common .second-listed) (common .different) in
+    record {
+      first = common .first;
+      second = common .second;
+      first-listed = common .first-listed;
+      second-listed = common .second-listed;
+      different = common .different;
+      meet = meet-exactly p q some-p some-q differ .1 (common .point, common .by-first, common .by-second);
     }
 
 -- So do two labels of every rival, for every number that the sheet prints and every p/q above twice it. Demand 3 is a hypothesis here:
@@ -87,7 +101,14 @@ right-common {way} {sheet = sheet} listed right {h} is p q some-q corners =
     subst (λ (ps : List Place). Rival way h p q (length ps) corners → CommonPoint p q ps corners) (right .spots)
     (guaranteed-common way sheet (right .guarantee) spots h p q printed some-q corners)
 
--- The same over a sheet at whatever side, where it prints the side found for its spots.
+-- Over a right sheet that is free no two of its own labels cover a common point, at whatever side.
+pub free-common : {way : Way} {sites : List Site} {sheet : List ℕ} → Listed sites → (right : RightSheet way sites sheet)
+    → right .answer .side ≡ Free → (p q : ℕ) → 1 ≤ p → 1 ≤ q → CommonPoint p q (spotsOn sheet) (right .answer .corners) → ⊥
+free-common {sheet = sheet} listed right is p q some-p some-q common =
+    let spots : Distinct (spotsOn sheet) = rw (right .spots) (listed .places-distinct) in
+    right .free-apart is p q (common-meeting some-p some-q spots common)
+
+-- Rivals of a sheet at whatever side, where it prints the side found for its spots.
 pub placed-common : {way : Way} {sites : List Site} {side : Side} {sheet : List ℕ} → Listed sites → PlacedSheet way sites side sheet
     → PrintsFound way sheet → {h : ℕ} {cs : List ℕ} → IsAnswer way (placesOf sites) (numbered h cs) → (p q : ℕ) → 1 ≤ q
     → (corners : List ℕ) → Rival way h p q (length (placesOf sites)) corners → CommonPoint p q (placesOf sites) corners

@@ -1,8 +1,8 @@
 -- Document 01, "What a label covers" against "Meeting": two labels of sites at different places meet exactly when some point
--- is covered by both. So the rule says what the picture says.
+-- is covered by both. So the rule says what the picture says. And a label that covers another site meets that site's.
 -- Assumes nothing.
 use mathlib.Core.Path.{_≡_, sym, ap, subst}
-use mathlib.Core.Logic.{_≢_, _↔_, _⊎_, inl, inr}
+use mathlib.Core.Logic.{_≢_, _↔_, _⊎_, inl, inr, ⊎-elim}
 use Prim.Native.Nat.{ℕ, _+_, _*_, _≤_, _<_, max}
 use native.Mathlib.Nat.{mul-sub, mul-le-mul-right, mul-lt-mul-of-pos-right, lt-of-mul-lt-mul-right, le-of-mul-le-mul-right}
 use native.Mathlib.Decide.{ℕ-discrete}
@@ -16,7 +16,7 @@ use Rattle.placing.specs.rules.Label.{Onward, upward, downward, Fraction
 use Rattle.placing.specs.rules.Label.{Overlap, same-way, facing, Meet}
 use Rattle.placing.specs.deciding.Tests.{both, place-equal, same-or-opposite}
 use Rattle.placing.specs.theorems.Corner.{opposite-back}
-use Rattle.placing.specs.theorems.Label.{onward-as, onward-same, onward-turned, onward-either, onward-through, covers-along}
+use Rattle.placing.specs.theorems.Label.{onward-as, onward-same, onward-turned, onward-either, onward-through, covers-along, covers-inside, reached-overlap}
 
 -- Distances grow with the scale.
 dist-times : (a b k : ℕ) → dist (a * k) (b * k) ≡ dist a b * k
@@ -171,3 +171,23 @@ pub meet-exactly : (p q : ℕ) → 1 ≤ p → 1 ≤ q → {s t : Place} {c e : 
     → Meet p q s c t e ↔ ((point : Point) × Covers p q s c point × Covers p q t e point)
 meet-exactly p q some-p some-q differ =
     (meet-common p q some-p some-q differ, λ common. common-meet some-p (common .1) (common .2))
+
+-- ---- a label that covers another site
+
+-- A label that covers the point at which another site stands meets the label there, whichever corner that has. So labels that do not meet
+-- cover no other site.
+pub covered-meets : {p q : ℕ} {s : Place} {c : ℕ} (t : Place) → Covers p q s c (pointOf t) → (e : ℕ) → Meet p q s c t e
+covered-meets {p} {q} {s} {c} t covers e axis = ⊎-elim inside-overlap at-overlap (covers-along covers axis)
+  where
+    inside-overlap : Inside p q (toward axis c) (along axis s) (pointOf t axis)
+        → Overlap p q (toward axis c) (along axis s) (toward axis e) (along axis t)
+    inside-overlap within =
+        let twice : dist (moved (along axis s) (pointOf t axis)) (inHalfUnits (along axis t)) ≡ 2 * dist (along axis s) (along axis t) = omega arith in
+        reached-overlap (onward-as (λ l. omega arith) (λ l. omega arith) (within .onward)) (omega (arith, rw twice at (within .near)))
+
+    at-overlap : AtSite (along axis s) (pointOf t axis) → Overlap p q (toward axis c) (along axis s) (toward axis e) (along axis t)
+    at-overlap at-site =
+        let same : along axis s ≡ along axis t = omega (arith, at-site .at) in
+        let none : dist (along axis s) (along axis t) ≡ 0 = omega arith in
+        let some = covers-inside covers .1 .near in
+        reached-overlap (onward-same same) (rw none (omega (arith, some)))

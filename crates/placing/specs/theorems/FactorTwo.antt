@@ -1,9 +1,8 @@
 -- Document 01, "What demand 3 counts": above twice the answer's side every choice of corners has two labels that meet, at whole
 -- sides and at fractions.
 -- Assumes nothing.
-use mathlib.Core.Path.{_≡_}
 use mathlib.Core.List.{List}
-use mathlib.Core.Logic.{Ne·symm, _⊎_, inl, inr}
+use mathlib.Core.Logic.{Ne·symm}
 use Prim.Native.Nat.{ℕ, suc, _*_, _≤_, _<_}
 use native.Mathlib.Omega.{arith}
 use native.Mathlib.Nat.{mul-le-mul-right}
@@ -12,14 +11,13 @@ use Rattle.placing.specs.declared.units.Place.{Place}
 use Rattle.placing.specs.declared.way.Way.the-variants.{Usual}
 use Rattle.placing.specs.declared.corner.Direction.{Direction}
 use Rattle.placing.specs.rules.Units.{dist}
-use Rattle.placing.specs.rules.Corner.{opposite}
-use Rattle.placing.specs.rules.Label.{Overlap, same-way, facing}
+use Rattle.placing.specs.rules.Label.{Overlap}
 use Rattle.placing.specs.rules.Crowd.{Ahead}
 use Rattle.placing.specs.rules.Choice.{Corners, uncrowded, Good, MeetingPair}
 use Rattle.placing.specs.rules.Answer.{numbered, IsAnswer, is-number}
 use Rattle.placing.specs.deciding.Decides.{decided}
-use Rattle.placing.specs.deciding.Tests.{same-or-opposite, meeting-decides}
-use Rattle.placing.specs.theorems.Label.{meet-larger}
+use Rattle.placing.specs.deciding.Tests.{meeting-decides}
+use Rattle.placing.specs.theorems.Label.{meet-larger, reached-overlap}
 use Rattle.placing.specs.theorems.Choice.{meeting-of, meeting-at}
 use Rattle.placing.specs.theorems.Answer.{NoneGood}
 
@@ -31,14 +29,9 @@ meeting-larger some-parts larger pair = meeting-at pair (meet-larger some-parts 
 module _ (h p q : ℕ) (twice : 2 * h * q < p) where
   -- At most h units ahead in one label's direction: at more than twice the side the two overlap, whichever way the other goes.
   near-overlap : {d e : Direction} {a b : ℕ} → Ahead (suc h) d a b → Overlap p q d a e b
-  near-overlap {d} {e} {a} {b} ahead = go (same-or-opposite d e)
-    where
-      near : 2 * dist a b * q ≤ 2 * h * q
-      near = mul-le-mul-right q (omega (arith, ahead .near))
-
-      go : (d ≡ e) ⊎ (opposite d ≡ e) → Overlap p q d a e b
-      go (inl same) = same-way same (omega (arith, near))
-      go (inr against) = facing against (ahead .onward) (omega (arith, near))
+  near-overlap {a = a} {b = b} ahead =
+      let near : 2 * dist a b * q ≤ 2 * h * q = mul-le-mul-right q (omega (arith, ahead .near)) in
+      reached-overlap (ahead .onward) (omega (arith, near))
 
   -- A choice without two labels that meet at p/q is good at h + 1: a site in the doubled label of h + 1 would have a label that meets this
   -- one, at whichever corner.

@@ -13,7 +13,7 @@ use Rattle.placing.specs.rules.Units.{Axis, X, Y, along, inHalfUnits, di
 use Rattle.placing.specs.rules.Corner.{toward, opposite}
 use Rattle.placing.specs.rules.Label.{Onward, upward, downward, Point, moved, AtSite, Inside, AtFarEdge, Covers, square}
 use Rattle.placing.specs.rules.Label.{edge, Overlap, same-way, facing, Meet}
-use Rattle.placing.specs.deciding.Tests.{place-equal}
+use Rattle.placing.specs.deciding.Tests.{place-equal, same-or-opposite}
 use Rattle.placing.specs.theorems.Corner.{opposite-back}
 
 -- ---- the order along an axis
@@ -103,6 +103,14 @@ meet-symmetric meet axis = overlap-symmetric (meet axis)
 pub overlap-near : {p q : ℕ} {d e : Direction} {a b : ℕ} → Overlap p q d a e b → dist a b * q < p
 overlap-near (same-way same near) = omega (arith, near)
 overlap-near (facing against onward near) = near
+
+-- What a label has ahead within its own length is overlapped there, whichever way the other label goes.
+pub reached-overlap : {p q : ℕ} {d e : Direction} {a b : ℕ} → Onward d a b → inHalfUnits (dist a b) * q < p → Overlap p q d a e b
+reached-overlap {p} {q} {d} {e} {a} {b} onward near = go (same-or-opposite d e)
+  where
+    go : (d ≡ e) ⊎ (opposite d ≡ e) → Overlap p q d a e b
+    go (inl same) = same-way same near
+    go (inr against) = facing against onward (omega (arith, near))
 
 -- Labels of side 1 at different places do not meet.
 pub meet-one : {s t : Place} {c e : ℕ} → Meet 1 1 s c t e → s ≡ t

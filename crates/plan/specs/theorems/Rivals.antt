@@ -14,11 +14,12 @@ use Rattle.placing.specs.declared.units.Side.the-variants.{Free}
 use Rattle.placing.specs.declared.way.Way.{Way}
 use Rattle.placing.specs.declared.way.Way.the-variants.{Usual, Above}
 use Rattle.placing.specs.rules.Units.{siteAt, Distinct}
-use Rattle.placing.specs.rules.Label.{Point, Covers}
+use Rattle.placing.specs.rules.Label.{Point, Covers, pointOf}
 use Rattle.placing.specs.rules.Choice.{cornerAt, Corners, AboveCorners, MeetingPair}
-use Rattle.placing.specs.rules.Answer.{Answer, numbered, sideNumber, IsAnswer, IsChosen}
+use Rattle.placing.specs.rules.Answer.{Answer, judgedAt, numbered, sideNumber, IsAnswer, IsChosen}
 use Rattle.placing.specs.theorems.Answer.{answer-unique}
-use Rattle.placing.specs.theorems.CommonPoint.{meet-exactly}
+use Rattle.placing.specs.theorems.Choice.{meeting-of}
+use Rattle.placing.specs.theorems.CommonPoint.{meet-exactly, covered-meets}
 use Rattle.plan.specs.rules.List.{Site, Listed, placesOf}
 use Rattle.plan.specs.rules.Sheet.{sideOn, numberOn, spotsOn}
 use Rattle.plan.specs.declared.plan.Written.the-variants.{Bytes}
@@ -124,6 +125,13 @@ placed-right placed {found} is printed = placed .at-found (record { found = foun
 pub placed-on-spots : {way : Way} {sites : List Site} {side : Side} {sheet : List ℕ} (placed : PlacedSheet way sites side sheet)
     → IsChosen way (spotsOn sheet) (record { side = side; corners = placed .corners })
 placed-on-spots placed = rw (placed .spots) (placed .is-chosen)
+
+-- So no label on it covers the spot of another line.
+pub covers-no-spot : {way : Way} {sites : List Site} {side : Side} {sheet : List ℕ} (placed : PlacedSheet way sites side sheet) (i j : ℕ)
+    → i < length (spotsOn sheet) → j < length (spotsOn sheet) → i ≢ j
+    → Covers (judgedAt side) 1 (siteAt (spotsOn sheet) i) (cornerAt (placed .corners) i) (pointOf (siteAt (spotsOn sheet) j)) → ⊥
+covers-no-spot placed i j listed other differ covers =
+    placed-on-spots placed .first .good .apart (meeting-of i j listed other differ (covered-meets _ covers _))
 
 -- What an accepted writing leaves in the buffer is such a sheet.
 pub written-common : {way : Way} {sites : List Site} {side : Side} (n : ℕ) (buffer : List ℕ) → Listed sites

@@ -1,5 +1,5 @@
-//! A straightforward placer of the same lists, to compare cost with. It follows the rules of document 01 and the same method:
-//! decide a corner, carry the decision on, walk the sites in list order, bisect for the side. Usage:
+//! A straightforward placer of the same lists, to compare cost with. It follows the rules of document 01 and, above the spot, of document
+//! 02, L2, by the same method: decide a corner, carry the decision on, walk the sites in list order, bisect for the side. Usage:
 //!     baseline place [above] [SIDE] < LIST   writes the sheet, with four corners or 1 and 2, at the side found or at this one
 //!     baseline list KIND N                   writes a list: random, grid, row, diagonal, antidiagonal, packed, jitter
 use std::io::{self, Read, Write};

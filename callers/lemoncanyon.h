@@ -50,9 +50,10 @@ extern "C" {
    program `place` writes for this list, or `place above` with LEMONCANYON_ABOVE, and every byte after it is as it came. Of this sheet
    holds, with LEMONCANYON_USUAL: no two labels meet, no corner is crowded, of all such choices at this side the corners are the first in
    list order; no greater side has one; and nobody does better than twice the printed number, fractions too, over all four corners.
-   With LEMONCANYON_ABOVE: no two labels meet, corners are 1 and 2 alone, of all such choices the first in list order; the side found is
-   the greatest that anybody can have with corners 1 and 2, fractions too. That nobody does better than twice the number over all four
-   corners is not promised of such a sheet. Its side may be smaller or greater than that of the usual way.
+   With LEMONCANYON_ABOVE: no two labels meet, corners are 1 and 2 alone, of all such choices at this side the first in list order; the
+   side found is the greatest that anybody can have with corners 1 and 2, fractions too. That nobody does better than twice the number over
+   all four corners is not promised of such a sheet. Its side may be smaller or greater than that of the usual way. In either way, where the
+   sheet prints free its labels meet at no side, whole or fraction.
 
    Below LEMONCANYON_SHORTEST: the number of the refusal. Every byte of the buffer is as it came.
      1  a line of other than three fields, over 20 bytes, or without its line feed

@@ -29,8 +29,8 @@ impl Counts {
     }
 }
 
-// By each way. By the usual one also how many lists are in one straight row and have a choice over twice their side; above, how many have
-// a smaller, the same and a greater side than by the usual way, free being the greatest.
+// By each way. By the usual one also how many lists are in one straight row and have a choice over twice their side; above the spot, how
+// many have a smaller, the same and a greater side than by the usual way, free being the greatest.
 pub struct Tally {
     pub usual: Counts,
     pub in_one_row: u64,

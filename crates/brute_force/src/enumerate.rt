@@ -158,7 +158,7 @@ fn choice_limit(sites: Sites, corners: [u8; 7], crowding: bool, floor: u64) -> u
     least
 }
 
-// The rules of a way: those of document 01; above, document 02, L2: "any choice of 1 and 2 without meeting labels counts".
+// The rules of a way: those of document 01; above the spot, document 02, L2: "any choice of 1 and 2 without meeting labels counts".
 fn rules_of(way: Way) -> Rules
     ensures { λ r. ⌜ (1 ≤ r .last) × (r .last ≤ 4) ⌝ }
 {

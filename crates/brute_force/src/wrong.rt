@@ -1,6 +1,6 @@
-// Answers that are wrong for document 01's list A, B, C, whose side is 6 with corners 3, 1, 1, and above 8 with 1, 1, 1. Judging the
-// product by them is meant to tell of a difference each, so that the stored output changes when the comparing breaks, or when a way is
-// taken for the other.
+// Answers that are wrong for document 01's list A, B, C, whose side is 6 with corners 3, 1, 1, and above the spot 8 with 1, 1, 1. Judging
+// the product by them is meant to tell of a difference each, so that the stored output changes when the comparing breaks, or when a way
+// is taken for the other.
 use crate::counts::Counts;
 use crate::counts::Tally;
 use crate::counts::print_tally;
@@ -48,8 +48,8 @@ fn judged_at_sides(
     judged_at(two, column(), way, none)
 }
 
-// At the side found: first a side that is too small by one, so that a choice holds at twice it and one more, and for the answer above the
-// usual one; then another last corner. At the given side above, the other corners are the usual ones there.
+// At the side found: first a side that is too small by one, so that a choice holds at twice it and one more, and above the spot the usual
+// answer; then another last corner. At the given side above the spot, the other corners are the usual ones there.
 pub fn print_wrong() {
     io::write_all(1, b"meant to come out wrong:\n");
     let one = judged(

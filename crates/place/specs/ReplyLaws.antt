@@ -48,7 +48,8 @@ first-byte (suc n) b [] rest is = absurd (omega (arith, ap length is))
 first-byte (suc n) b (c ∷ buffer) rest is = cc
 
 -- A sheet starts with the letter s, of the word side; so what starts with another is the line of a refusal.
-letter-refuses : {output : List ℕ} (way : Way) (at : At) (text : List ℕ) (n : ℕ) (buffer : List ℕ) → output ≡ take n buffer → AnsweredBy way at text output
+letter-refuses : {output : List ℕ} (way : Way) (at : At) (text : List ℕ) (n : ℕ) (buffer : List ℕ) → output ≡ take n buffer
+    → AnsweredBy way at text output
     → getD buffer 0 0 ≡ 114 → IsRefused way at text
 unfolding sheetWith
 letter-refuses way Found text n buffer is (refusal-line {number} refused line) letter = (number, refused)
@@ -59,7 +60,8 @@ letter-refuses way (Given side) text n buffer is (sheet-at for) letter =
     absurd (omega (arith, letter, first-byte n 115 buffer _ (sym is ∙ for .placed .prints)))
 
 -- What was answered for the bytes read can be written.
-pub replied-writable : (way : Way) (at : At) (start room : List ℕ) (answer : Answer) (buffer : List ℕ) → Replied way at start room answer buffer
+pub replied-writable : (way : Way) (at : At) (start room : List ℕ) (answer : Answer) (buffer : List ℕ)
+    → Replied way at start room answer buffer
     → Writable way at answer room buffer
 replied-writable way at start room (Output reading n) buffer replied =
     let within = replied .input-read .finished .within in

@@ -91,6 +91,7 @@ fn words_asked(words: usize, one: Word, two: Word) -> Task
     Task::Usage
 }
 
+// The argument with this number.
 fn word_at(i: usize) -> Word
     ensures { λ r. ⌜ Counts (r .len) (r .bytes) ⌝ }
 {
@@ -99,6 +100,7 @@ fn word_at(i: usize) -> Word
     Word { bytes, len }
 }
 
+// What the arguments ask for. Those that are missing are words of no bytes.
 pub(crate) fn asked() -> Task {
     let count = os::arg_count();
     // The first is the program's own name.

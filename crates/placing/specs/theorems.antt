@@ -14,7 +14,7 @@ pub mod Supremum
 pub mod AtMostTwo
 -- Above twice the answer's side every choice has two labels that meet.
 pub mod FactorTwo
--- Above the side found above, no choice of corners 1 and 2 keeps its labels apart.
+-- At sides greater than the one found above the spot, no choice of corners 1 and 2 keeps its labels apart.
 pub mod ExactSide
 -- A search for the first good choice that a checker can run, and a test of an answer by it.
 pub mod PrunedSearch

@@ -156,7 +156,7 @@ fn first_corners(corners: [u8; Limits::SITES], n: usize) -> [u8; Limits::SITES]
     first
 }
 
-// The first good choice at a side for the first `n` sites at these coordinates. Up to side 1 corner 1 everywhere is good, and
+// The first good choice by a way at a side for the first `n` sites at these coordinates. Up to side 1 corner 1 everywhere is good, and
 // the first. Where the top that crowding leaves is below the side there is none.
 pub(crate) fn first_choice(
     xs: &[u32; Limits::SITES],

@@ -1,6 +1,6 @@
 // How far each corner reaches before it is crowded. This does not depend on the side that is tried, so it is found once for all of
-// them. Where all four corners of a site are crowded there is no good choice: so the reaches also bound the side. Above, where crowding
-// plays no part, the reaches say which corners there are.
+// them. Where all four corners of a site are crowded there is no good choice: so the reaches also bound the side. Above the spot, where
+// crowding plays no part, the reaches say which corners there are.
 use crate::geometry::distance;
 use crate::geometry::distance_between;
 use crate::geometry::lies_toward;
@@ -136,7 +136,7 @@ fn crowding_of(
     Crowding { reaches, top }
 }
 
-// The reach above of the corner at a place of the array: as far as can be for corners 1 and 2, nothing for 3 and 4.
+// The reach of the corner at a place of the array, above the spot: as far as can be for corners 1 and 2, nothing for 3 and 4.
 fn upper_reach(at: usize, furthest: u32) -> u32
     ensures { λ r. ⌜ UpperReach furthest at r ⌝ }
 {

@@ -42,7 +42,7 @@ pub fn find_side(sites: [Place; Limits::SITES], n: usize, way: Way, table: &mut 
     side
 }
 
-// The first good choice at this side, where there is one. The table is used as in finding.
+// The first good choice by a way at this side, where there is one. The table is used as in finding.
 pub fn choose_corners(
     sites: [Place; Limits::SITES],
     n: usize,

@@ -99,7 +99,7 @@ fn bisect(
     side_of(between.low)
 }
 
-// The greatest side of the first `n` sites at these coordinates.
+// The greatest side by a way of the first `n` sites at these coordinates.
 pub(crate) fn greatest_side(
     xs: &[u32; Limits::SITES],
     ys: &[u32; Limits::SITES],

@@ -81,7 +81,7 @@ fn close_corner(
     }
 }
 
-// The labels of sites `k`, which is `own`, and `j` clash, the latter in these directions: they are two sites, and their labels meet. Most
+// The label of site `k`, `own`, clashes with the one of site `j` in these directions: they are two sites, and their labels meet. Most
 // labels do not meet, so that is asked first.
 fn clash(
     xs: &[u32; Limits::SITES],
@@ -163,7 +163,7 @@ fn carry_corner(
     true
 }
 
-// Carries the decision of site `k` to all others. Uncrowded labels meet at equal corners only; above, both corners are looked at.
+// Carries the decision of site `k` to all others. Uncrowded labels meet at equal corners only; above the spot, both corners are looked at.
 fn carry_out(
     xs: &[u32; Limits::SITES],
     ys: &[u32; Limits::SITES],

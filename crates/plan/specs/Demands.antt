@@ -11,7 +11,7 @@ use Rattle.placing.specs.declared.units.Side.{Side}
 use Rattle.placing.specs.declared.units.Side.the-variants.{Free}
 use Rattle.placing.specs.declared.way.Way.{Way}
 use Rattle.placing.specs.declared.way.Way.the-variants.{Usual, Above}
-use Rattle.placing.specs.rules.Choice.{Corners, AboveCorners, MeetingPair, SomeGood}
+use Rattle.placing.specs.rules.Choice.{Corners, UpperCorners, MeetingPair, SomeGood}
 use Rattle.placing.specs.rules.Answer.{Answer, isSide, judgedAt, sideNumber, IsAnswer, IsChosen}
 use Rattle.plan.specs.declared.list.RefusedLine.{RefusedLine}
 use Rattle.plan.specs.declared.list.Stop.{Stop}
@@ -143,17 +143,26 @@ pub record NoRival (sheet : List ℕ) : Type 0 where
   pub rivals-meet : (number p q : ℕ) → numberOn sheet ≡ some number → 1 ≤ q → 2 * number * q < p
       → (corners : List ℕ) → Corners (length (spotsOn sheet)) corners → MeetingPair p q (spotsOn sheet) corners
 
--- Document 02, L2, above the spot only: "The side is therefore the greatest that anybody can have under those two corners, and that is to be
--- proved, for fractions too." A rival has corners 1 and 2, one for each line, with any side p/q above the number, that is p > number × q.
+-- ---- document 02, L2: what is guaranteed of a sheet placed above the spot only
+
+-- "The side is therefore the greatest that anybody can have under those two corners, and that is to be proved, for fractions too." A rival
+-- has corners 1 and 2, one for each line, with any side p/q greater than the number, that is p > number × q.
 pub record NoRivalAbove (sheet : List ℕ) : Type 0 where
   pub rivals-meet : (number p q : ℕ) → numberOn sheet ≡ some number → 1 ≤ q → number * q < p
-      → (corners : List ℕ) → AboveCorners (length (spotsOn sheet)) corners → MeetingPair p q (spotsOn sheet) corners
+      → (corners : List ℕ) → UpperCorners (length (spotsOn sheet)) corners → MeetingPair p q (spotsOn sheet) corners
 
--- What each way guarantees of a sheet. L2, of those above: "The twice-the-side guarantee over all four corners does not cover sheets placed
--- this way".
+-- What each way guarantees of a sheet: demand 3 the usual one, and "the twice-the-side guarantee over all four corners does not cover sheets
+-- placed this way".
 abbrev pub Guarantee : Way → List ℕ → Type 0
 Guarantee Usual sheet = NoRival sheet
 Guarantee Above sheet = NoRivalAbove sheet
+
+-- ---- free, by either way
+
+-- "If a good choice exists at 20,001, it is good at every side": where a sheet prints free, labels at its corners meet at no side, whole or
+-- fraction. Side and spots are read off the bytes.
+pub record FreeApart (sheet corners : List ℕ) : Type 0 where
+  pub none-meet : sideOn sheet ≡ some Free → (p q : ℕ) → MeetingPair p q (spotsOn sheet) corners → ⊥
 
 -- ---- demands 2 and 3 of the bytes of a sheet for some sites, by a way of placing
 
@@ -170,15 +179,15 @@ pub record RightSheet (way : Way) (sites : List Site) (sheet : List ℕ) : Type 
   pub list : carried sheet ≡ listText sites
   -- which, read again, gives the same sheet when placed the same way.
   pub again : outputOf way (carried sheet) ≡ sheet
-  -- Where it is free, its labels meet at no side, whole or fraction: "if a good choice exists at 20,001, it is good at every side".
-  pub free-apart : answer .side ≡ Free → (p q : ℕ) → MeetingPair p q (spotsOn sheet) (answer .corners) → ⊥
-  -- Demand 3 by the usual way, and above what stands for it.
+  pub free-apart : FreeApart sheet (answer .corners)
+  -- Demand 3, or what stands for it above the spot.
   pub guarantee : Guarantee way sheet
 
 -- ---- the same of a sheet at whatever side its plan was placed (document 02, L1 and L2)
 
--- "At the side found for that very plan": the printed side is that of the answer for the spots by the way, all read off the bytes. L2, of one
--- found above: it "counts as a given one where four corners are chosen at it", since there the side found the usual way is asked for.
+-- "At the side found for that very plan": the printed side is that of the answer for the spots, by the plan's way; side and spots are read
+-- off the bytes. L2, of "a side found this way": it "counts as a given one where four corners are chosen at it", since there the side found
+-- the usual way is asked for.
 pub record PrintsFound (way : Way) (sheet : List ℕ) : Type 0 where
   pub found : Answer
   pub is-answer : IsAnswer way (spotsOn sheet) found
@@ -195,6 +204,7 @@ pub record PlacedSheet (way : Way) (sites : List Site) (side : Side) (sheet : Li
   -- L2: "The sheet keeps its form; its list gives the same sheet again when placed the same way at the same side", which is read off its
   -- bytes.
   pub again : (printed : Side) → sideOn sheet ≡ some printed → outputAt way printed (carried sheet) ≡ sheet
+  pub free-apart : FreeApart sheet corners
   -- "That the side is the greatest, and the twice-the-side guarantee, then hold only at the side found": there it is right as said before.
   pub at-found : PrintsFound way sheet → RightSheet way sites sheet
 

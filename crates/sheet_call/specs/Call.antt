@@ -55,7 +55,8 @@ abbrev pub calledAt : GivenWay → Side → List ℕ → List ℕ → Called
 calledAt (By way) side list buffer = calledFor (sheetAt way side) (toPlaceAt side (existsAt way side) (readList list)) buffer
 calledAt NoWay side list buffer = refusal BadNumber buffer
 
--- The numbers that stand for the ways: 1 for the usual one, 2 for above the spot only.
+-- The numbers that stand for the ways: 1 for the usual one, 2 for above the spot only. No document has them; a number that is none is
+-- refused as a side outside the range is.
 abbrev pub wayOf : ℕ → GivenWay
 wayOf number = elim (eqb number 1) [ true ↦ By Usual | false ↦ elim (eqb number 2) [ true ↦ By Above | false ↦ NoWay ] ]
 
@@ -75,7 +76,7 @@ pub record Asked : Type 1 where
   pub output : List ℕ
   pub shortest : ℕ
 
--- Without a way: refused with 3, no sheet.
+-- Without a way: refused with 3, and no sheet.
 abbrev pub byNoWay : (shortest : ℕ) → Asked
 byNoWay shortest =
     record { Refused = λ number. number ≡ 3; IsSheet = λ sheet. ⊥; output = refusalLine 3; shortest = shortest }

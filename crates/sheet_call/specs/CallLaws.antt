@@ -238,7 +238,8 @@ pub no-way : (number : ℕ) → (number ≡ 1 → ⊥) → (number ≡ 2 → ⊥
 no-way number not-usual not-above = rw (ne-eqb number 1 not-usual, ne-eqb number 2 not-above, wayOf)
 
 -- and so is a side outside the range, whatever the way.
-side-refused : (way : GivenWay) (side : Side) (list buffer : List ℕ) → isSide side ≡ false → calledAt way side list buffer ≡ refusal BadNumber buffer
+side-refused : (way : GivenWay) (side : Side) (list buffer : List ℕ) → isSide side ≡ false
+    → calledAt way side list buffer ≡ refusal BadNumber buffer
 side-refused (By way) side list buffer outside = rw outside
 side-refused NoWay side list buffer outside = refl
 

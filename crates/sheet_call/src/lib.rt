@@ -35,6 +35,7 @@ const USUAL: u32 = 1;
 
 const ABOVE: u32 = 2;
 
+// What a number given as a way stands for.
 enum GivenWay {
     By(Way),
     NoWay,

@@ -119,7 +119,8 @@ pub record SideIs (greatest : HalfUnits) (side : Side) : Type 0 where
   pub number : greatest .0 < freeSide → side ≡ Number greatest
 
 -- Where nothing is left to try, the lower side is the answer's.
-pub between-ends : {way : Way} {ps : List Place} {top : ℕ} {between : Between} {side : Side} → top ≤ freeSide → Distinct ps → BetweenIs way ps top between
+pub between-ends : {way : Way} {ps : List Place} {top : ℕ} {between : Between} {side : Side} → top ≤ freeSide → Distinct ps
+    → BetweenIs way ps top between
     → between .next .0 ≤ between .low .0 → SideIs (between .low) side → side ≡ answerOf way ps .side
 between-ends {way} {ps} {top} {between} {side} judged distinct is-between last is-side = go (ℕ-discrete low freeSide)
   where

@@ -219,7 +219,7 @@ module _ {n : ℕ} {xs ys : List ℕ} {way : Way} {side : HalfUnits} {opens deci
       same : {e : ℕ} → LookedAt Usual (cornerAt decided k) e → Only (cornerAt decided k) e
       same (equal at) = at
 
-  -- above two rounds do, over corner 1 and over corner 2.
+  -- and above the spot two rounds do, over corner 1 and over corner 2.
   pub carried-above : {went ok : Bool} {opens₁ decided₁ opens′ decided′ : List ℕ} → way ≡ Above
       → CarriedOut (labels way (side .0) n xs ys) (Only 1) opens decided k went opens₁ decided₁ → went ≡ true
       → CarriedOut (labels way (side .0) n xs ys) (Only 2) opens₁ decided₁ k ok opens′ decided′

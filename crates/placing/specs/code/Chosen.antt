@@ -74,7 +74,8 @@ module _ (way : Way) (h : ℕ) (ps : List Place) where
 
   -- Where the walk has led to one.
   pub choice-found : {n : ℕ} (chosen : Chosen) {first : List ℕ} → length ps ≡ n → choiceIn n chosen ≡ firstGood way h ps → chosen .ok ≡ true
-      → first ≡ take n (chosen .corners) ++ replicate (mostSites - n) 0 → record { exists = true; corners = first } ≡ choiceAs (firstGood way h ps)
+      → first ≡ take n (chosen .corners) ++ replicate (mostSites - n) 0
+      → record { exists = true; corners = first } ≡ choiceAs (firstGood way h ps)
   choice-found {n} chosen count is ok = choice-is count (sym is ∙ ap (λ (b : Bool). whereYes b (take n (chosen .corners))) ok)
 
   -- Up to side 1, where it is corner 1 everywhere.

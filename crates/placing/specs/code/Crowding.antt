@@ -15,8 +15,8 @@ use Rattle.placing.specs.declared.way.Way.{Way}
 use Rattle.placing.specs.declared.way.Way.the-variants.{Usual, Above}
 use Rattle.placing.specs.rules.Units.{mostSites, freeSide}
 use Rattle.placing.specs.rules.Corner.{Corner}
-use Rattle.placing.specs.rules.Choice.{cornerAt, Allowed, uncrowded, at-most-two, Good}
-use Rattle.placing.specs.deciding.Tests.{not-crowded, one-or-two}
+use Rattle.placing.specs.rules.Choice.{cornerAt, Allowed, uncrowded, upper, Good}
+use Rattle.placing.specs.deciding.Tests.{not-crowded, is-upper}
 use Rattle.placing.specs.search.Rows.{indexOf}
 use Rattle.placing.specs.code.Filled.{Filled, filled-front}
 use Rattle.placing.specs.code.Reach.{ReachIs}
@@ -136,12 +136,12 @@ crowding-all top count all so-far =
       none-above = so-far .none-above;
     }
 
--- ---- above
+-- ---- above the spot
 
--- The reach of the corner at a place of the array, above: as far as can be for corners 1 and 2, nothing for 3 and 4.
+-- The reach of the corner at a place of the array: as far as can be for corners 1 and 2, nothing for 3 and 4.
 pub record UpperReach (furthest at reach : ℕ) : Type 0 where
-  pub upper : at % 4 < 2 → reach ≡ furthest
-  pub lower : 2 ≤ at % 4 → reach ≡ 0
+  pub at-upper : at % 4 < 2 → reach ≡ furthest
+  pub at-lower : 2 ≤ at % 4 → reach ≡ 0
 
 -- The first k reaches are written, over a list of zeros.
 abbrev pub UpperBelow : (furthest k : ℕ) → List ℕ → Type 0
@@ -160,8 +160,8 @@ crowding-above {n} {furthest} {k} {reaches} most double all filled ps =
     within : (i c : ℕ) → Corner c → UpperReach furthest (indexOf i c) (reachAt reaches i c) → Dec (c ≤ 2)
         → AllowedWithin Above ps (most .0) i c (reachAt reaches i c)
     within i c corner reach (yes low) =
-        let far : reachAt reaches i c ≡ furthest = reach .upper (omega arith) in
-        record { allows = λ h least inside reached. at-most-two low; shuts = λ h inside passed. absurd (omega arith) }
+        let far : reachAt reaches i c ≡ furthest = reach .at-upper (omega arith) in
+        record { allows = λ h least inside reached. upper low; shuts = λ h inside passed. absurd (omega arith) }
     within i c corner reach (no high) =
-        let none : reachAt reaches i c ≡ 0 = reach .lower (omega arith) in
-        record { allows = λ h least inside reached. absurd (omega arith); shuts = λ h inside passed allowed. high (one-or-two allowed) }
+        let none : reachAt reaches i c ≡ 0 = reach .at-lower (omega arith) in
+        record { allows = λ h least inside reached. absurd (omega arith); shuts = λ h inside passed allowed. high (is-upper allowed) }

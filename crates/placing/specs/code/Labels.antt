@@ -1,7 +1,7 @@
 -- Labels of side h as a problem of candidates and conflicts: a corner is a candidate where the way allows it, and two corners of different
 -- sites are in conflict where their labels meet. The search asks that of three candidates of a site one meets nothing. By the usual way
--- that is `one-of-three`; above there are no three. And it asks that meeting is symmetric. That uncrowded labels meet at equal corners only
--- (`same-corner`) stands below for the code, which is the faster for it.
+-- that is `one-of-three`; above the spot there are no three. And it asks that meeting is symmetric. That uncrowded labels meet at equal
+-- corners only (`same-corner`) stands below for the code, which is the faster for it.
 -- Assumes nothing.
 use mathlib.Core.Path.{_≡_, sym, _∙_}
 use mathlib.Core.List.{List}
@@ -15,7 +15,7 @@ use Rattle.placing.specs.declared.way.Way.the-variants.{Usual, Above}
 use Rattle.placing.specs.rules.Corner.{Corner}
 use Rattle.placing.specs.rules.Label.{Meet}
 use Rattle.placing.specs.rules.Choice.{cornerAt, Allowed, Good}
-use Rattle.placing.specs.deciding.Tests.{not-crowded, one-or-two}
+use Rattle.placing.specs.deciding.Tests.{not-crowded, is-upper}
 use Rattle.placing.specs.theorems.Label.{meet-symmetric}
 use Rattle.placing.specs.theorems.Choice.{meeting-of}
 use Rattle.placing.specs.theorems.AtMostTwo.{Alone, one-of-three, same-corner}
@@ -52,9 +52,9 @@ labels-one-dead Usual h n xs ys i a b c listed a≢b a≢c b≢c at-a at-b at-c 
               (rw (site-at n xs ys i listed, site-at n xs ys j there) meets);
         }
 labels-one-dead Above h n xs ys i a b c listed a≢b a≢c b≢c at-a at-b at-c =
-    let low-a : a ≤ 2 = one-or-two (at-a .allowed) in
-    let low-b : b ≤ 2 = one-or-two (at-b .allowed) in
-    let low-c : c ≤ 2 = one-or-two (at-c .allowed) in
+    let low-a : a ≤ 2 = is-upper (at-a .allowed) in
+    let low-b : b ≤ 2 = is-upper (at-b .allowed) in
+    let low-c : c ≤ 2 = is-upper (at-c .allowed) in
     absurd (omega (arith, at-a .corner .least, at-b .corner .least, at-c .corner .least))
 
 -- The n sites at these coordinates, with labels of side h.
@@ -98,7 +98,7 @@ solution-good way h n xs ys cs solution =
     candidate : (i : ℕ) → i < length (sitesOf n xs ys) → AllowedCorner way h (sitesOf n xs ys) i (cornerAt cs i)
     candidate i there = solution .candidate i (rw length-sites at there)
 
--- The corners of other sites that are looked at when corner c of a site is decided: by the usual way c itself, above 1 and 2.
+-- The corners of other sites that are looked at when corner c of a site is decided: by the usual way c itself, above the spot 1 and 2.
 pub data LookedAt : Way → (c e : ℕ) → Type 0 where
   equal : {c e : ℕ} → e ≡ c → LookedAt Usual c e
   low : {c e : ℕ} → e ≤ 2 → LookedAt Above c e
@@ -112,4 +112,4 @@ met-looked Usual h n xs ys {k} {j} listed other different own beside meets =
     (same-corner h (sitesOf n xs ys) (rw length-sites listed) (rw length-sites other) (Ne·symm different)
     (own .corner) (beside .corner) (not-crowded (own .allowed)) (not-crowded (beside .allowed))
     (rw (site-at n xs ys k listed, site-at n xs ys j other) meets)))
-met-looked Above h n xs ys listed other different own beside meets = low (one-or-two (beside .allowed))
+met-looked Above h n xs ys listed other different own beside meets = low (is-upper (beside .allowed))

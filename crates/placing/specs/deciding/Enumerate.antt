@@ -49,7 +49,8 @@ finds-nothing (found {cs} has none-before) none-has = absurd (none-has cs has)
 finds-nothing (missing none-found) none-has = refl
 
 -- What a search for good choices finds is the first good choice.
-pub found-first : {way : Way} {h : ℕ} {ps : List Place} {cs : List ℕ} {o : Option (List ℕ)} → FirstWith (Good way h ps) o → o ≡ some cs → First way h ps cs
+pub found-first : {way : Way} {h : ℕ} {ps : List Place} {cs : List ℕ} {o : Option (List ℕ)} → FirstWith (Good way h ps) o → o ≡ some cs
+    → First way h ps cs
 found-first {way} {h} {ps} (found good none-before) is-found = subst (First way h ps) (cc) (record { good = good; none-before = none-before })
 found-first (missing none-has) is-found = absurd (Option·none-ne-some _ is-found)
 

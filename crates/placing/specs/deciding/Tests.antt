@@ -17,9 +17,9 @@ use Rattle.placing.specs.declared.corner.Direction.{Direction}
 use Rattle.placing.specs.declared.corner.Direction.the-variants.{Up, Down}
 use Rattle.placing.specs.rules.Units.{Axis, X, Y, along, inHalfUnits, dist, siteAt, Distinct}
 use Rattle.placing.specs.rules.Corner.{Corner, toward, opposite}
-use Rattle.placing.specs.rules.Label.{Onward, upward, downward, Overlap, same-way, facing, Meet}
+use Rattle.placing.specs.rules.Label.{Onward, upward, downward, Overlap, same-direction, facing, Meet}
 use Rattle.placing.specs.rules.Crowd.{Ahead, DoubledCovers, Crowded}
-use Rattle.placing.specs.rules.Choice.{cornerAt, Corners, Allowed, uncrowded, at-most-two, Good, MeetingPair}
+use Rattle.placing.specs.rules.Choice.{cornerAt, Corners, Upper, Allowed, uncrowded, upper, Good, MeetingPair}
 use Rattle.placing.specs.deciding.Decides.{Decides, decides-same, decides-second, decides-no, decides-yes}
 
 -- The tests of numbers decide.
@@ -161,12 +161,12 @@ onward-decides Down a b = decides-same downward ordered (le-decides b a)
     ordered (downward l) = l
 
 -- What decides the bound on the distance decides overlap, for labels that go the same way,
-pub same-way-decides : {answer : Bool} {p q : ℕ} {d e : Direction} {a b : ℕ} → d ≡ e → Decides answer (inHalfUnits (dist a b) * q < p)
+pub same-direction-decides : {answer : Bool} {p q : ℕ} {d e : Direction} {a b : ℕ} → d ≡ e → Decides answer (inHalfUnits (dist a b) * q < p)
     → Decides answer (Overlap p q d a e b)
-same-way-decides {p = p} {q = q} {d = d} {e = e} {a = a} {b = b} same = decides-same (same-way same) back
+same-direction-decides {p = p} {q = q} {d = d} {e = e} {a = a} {b = b} same = decides-same (same-direction same) back
   where
     back : Overlap p q d a e b → inHalfUnits (dist a b) * q < p
-    back (same-way is near) = near
+    back (same-direction is near) = near
     back (facing is onward near) = absurd (opposite-differs d (is ∙ sym same))
 
 -- and with the order for labels that face each other.
@@ -175,7 +175,7 @@ pub facing-decides : {answer : Bool} {p q : ℕ} {d e : Direction} {a b : ℕ} �
 facing-decides {p = p} {q = q} {d = d} {e = e} {a = a} {b = b} against = decides-same (λ r. facing against (r .0) (r .1)) back
   where
     back : Overlap p q d a e b → Onward d a b × (dist a b * q < p)
-    back (same-way is near) = absurd (opposite-differs d (against ∙ sym is))
+    back (same-direction is near) = absurd (opposite-differs d (against ∙ sym is))
     back (facing is onward near) = (onward, near)
 
 abbrev pub overlapTest : (p q : ℕ) → Direction → ℕ → Direction → ℕ → Bool
@@ -188,7 +188,7 @@ overlap-decides p q d a e b = by-direction (same-or-opposite d e)
     by-direction : (w : (d ≡ e) ⊎ (opposite d ≡ e))
         → Decides (elim w [ inl same ↦ ltb (inHalfUnits (dist a b) * q) p | inr against ↦ onwardTest d a b && ltb (dist a b * q) p ])
         (Overlap p q d a e b)
-    by-direction (inl same) = same-way-decides same (lt-decides _ _)
+    by-direction (inl same) = same-direction-decides same (lt-decides _ _)
     by-direction (inr against) = facing-decides against (both-decide (onward-decides d a b) (lt-decides _ _))
 
 abbrev pub meetTest : (p q : ℕ) → Place → ℕ → Place → ℕ → Bool
@@ -257,9 +257,9 @@ corners-decide n cs =
 pub not-crowded : {h : ℕ} {ps : List Place} {i c : ℕ} → Allowed Usual h ps i c → Crowded h ps i c → ⊥
 not-crowded (uncrowded none) = none
 
--- and what is allowed above is corner 1 or 2.
-pub one-or-two : {h : ℕ} {ps : List Place} {i c : ℕ} → Allowed Above h ps i c → c ≤ 2
-one-or-two (at-most-two low) = low
+-- and what is allowed above the spot is at most 2.
+pub is-upper : {h : ℕ} {ps : List Place} {i c : ℕ} → Allowed Above h ps i c → Upper c
+is-upper (upper low) = low
 
 abbrev pub allowedTest : Way → ℕ → List Place → (i c : ℕ) → Bool
 allowedTest Usual h ps i c = not (crowdedTest h ps i c)
@@ -267,7 +267,7 @@ allowedTest Above h ps i c = leb c 2
 
 pub allowed-decides : (way : Way) (h : ℕ) (ps : List Place) (i c : ℕ) → Decides (allowedTest way h ps i c) (Allowed way h ps i c)
 allowed-decides Usual h ps i c = decides-same uncrowded not-crowded (not-decides (crowded-decides h ps i c))
-allowed-decides Above h ps i c = decides-same at-most-two one-or-two (le-decides c 2)
+allowed-decides Above h ps i c = decides-same upper is-upper (le-decides c 2)
 
 abbrev pub goodTest : Way → ℕ → List Place → List ℕ → Bool
 goodTest way h ps cs =

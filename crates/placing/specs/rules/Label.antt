@@ -73,7 +73,7 @@ pointOf s axis = record { plus = inHalfUnits (along axis s); minus = 0; parts = 
 -- "opposite directions: let d be the place of the label that goes down the axis minus the place of the one that goes up it. Overlap
 -- exactly when d ≥ 0 and h > d", "d ≥ 0 and p > d × q".
 pub data Overlap (p q : ℕ) (d : Direction) (a : ℕ) (e : Direction) (b : ℕ) : Type 0 where
-  same-way : d ≡ e → inHalfUnits (dist a b) * q < p → Overlap p q d a e b
+  same-direction : d ≡ e → inHalfUnits (dist a b) * q < p → Overlap p q d a e b
   facing : opposite d ≡ e → Onward d a b → dist a b * q < p → Overlap p q d a e b
 
 -- "Two labels of side h on different sites meet exactly when they overlap along x and along y": the label at corner c of site s and the

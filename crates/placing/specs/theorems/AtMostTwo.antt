@@ -13,7 +13,7 @@ use Rattle.placing.specs.declared.units.Place.{Place}
 use Rattle.placing.specs.declared.corner.Direction.{Direction}
 use Rattle.placing.specs.rules.Units.{Axis, X, along, siteAt}
 use Rattle.placing.specs.rules.Corner.{Corner, toward, opposite}
-use Rattle.placing.specs.rules.Label.{Onward, across, Overlap, same-way, facing, Meet}
+use Rattle.placing.specs.rules.Label.{Onward, across, Overlap, same-direction, facing, Meet}
 use Rattle.placing.specs.rules.Crowd.{Ahead, Crowded}
 use Rattle.placing.specs.deciding.Tests.{opposite-differs}
 use Rattle.placing.specs.theorems.Corner.{along-both, cornerToward, corner-toward, toward-corner, corner-equal}
@@ -30,7 +30,7 @@ record Sight (h : ℕ) (d : Direction) (a : ℕ) (e : Direction) (b : ℕ) : Typ
 overlap-sight : {h : ℕ} {d e : Direction} {a b : ℕ} → Overlap h 1 d a e b → Sight h d a e b
 overlap-sight {d} (facing against onward near) =
     record { direction = d; ahead = record { onward = onward; near = omega (arith, near) }; own-or-back = inl refl }
-overlap-sight {h} {d} {e} {a} {b} (same-way same near) = go (onward-either d a b)
+overlap-sight {h} {d} {e} {a} {b} (same-direction same near) = go (onward-either d a b)
   where
     go : Onward d a b ⊎ Onward d b a → Sight h d a e b
     go (inl onward) = record { direction = d; ahead = record { onward = onward; near = omega (arith, near) }; own-or-back = inl refl }
@@ -49,7 +49,7 @@ overlap-ahead {h} {a} {b} overlap =
 
 -- and each of the other, unless the labels go the same direction.
 overlap-facing : {h : ℕ} {d e : Direction} {a b : ℕ} → Overlap h 1 d a e b → (d ≡ e) ⊎ (Ahead h d a b × Ahead h e b a)
-overlap-facing (same-way same near) = inl same
+overlap-facing (same-direction same near) = inl same
 overlap-facing {a} {b} (facing against onward near) =
     inr (
       record { onward = onward; near = omega (arith, near) },

@@ -14,9 +14,10 @@ use Rattle.placing.specs.rules.Units.{Axis, along, dist, siteAt, greates
 use Rattle.placing.specs.rules.Corner.{Corner}
 use Rattle.placing.specs.rules.Label.{Meet}
 use Rattle.placing.specs.rules.Crowd.{Crowded}
-use Rattle.placing.specs.rules.Choice.{cornerAt, Corners, MeetingPair, Allowed, uncrowded, at-most-two, Good, First, Before, lower, later}
+use Rattle.placing.specs.rules.Choice.{cornerAt, Corners, UpperCorners, MeetingPair, Allowed, uncrowded, upper, Good, First}
+use Rattle.placing.specs.rules.Choice.{Before, lower, later}
 use Rattle.placing.specs.deciding.Decides.{Decides}
-use Rattle.placing.specs.deciding.Tests.{goodTest, good-decides}
+use Rattle.placing.specs.deciding.Tests.{is-upper, goodTest, good-decides}
 use Rattle.placing.specs.theorems.Corner.{on-axis}
 use Rattle.placing.specs.theorems.Label.{overlap-at, meet-one, meet-larger-whole}
 use Rattle.placing.specs.theorems.Crowd.{crowded-at, crowded-larger, doubled-covers-one}
@@ -40,7 +41,7 @@ meeting-at pair = meeting-of (pair .first) (pair .second) (pair .first-listed) (
 -- A corner that is allowed at h is so at every smaller side,
 allowed-smaller : {way : Way} {h k : ℕ} {ps : List Place} {i c : ℕ} → k ≤ h → Allowed way h ps i c → Allowed way k ps i c
 allowed-smaller smaller (uncrowded none) = uncrowded (λ crowded. none (crowded-larger smaller crowded))
-allowed-smaller smaller (at-most-two low) = at-most-two low
+allowed-smaller smaller (upper low) = upper low
 
 -- and so, "a good choice at h is one at every smaller side".
 pub good-smaller : {way : Way} {h k : ℕ} {ps : List Place} {cs : List ℕ} → k ≤ h → Good way h ps cs → Good way k ps cs
@@ -58,7 +59,7 @@ none-crowded : {ps : List Place} → Distinct ps → (i c : ℕ) → i < length 
 none-crowded places i c listed crowded =
     places .distinct i (crowded .other) listed (crowded .listed) (Ne·symm (crowded .different)) (doubled-covers-one (crowded .covered))
 
--- every choice of corners that the way allows there is good,
+-- every choice of corners that the way allows there is good:
 pub good-at-one : {way : Way} {ps : List Place} {cs : List ℕ} → Distinct ps → Corners (length ps) cs
     → ((i : ℕ) → i < length ps → Allowed way 1 ps i (cornerAt cs i)) → Good way 1 ps cs
 good-at-one places corners allowed =
@@ -70,10 +71,22 @@ good-at-one places corners allowed =
           (meet-one (pair .meet));
     }
 
--- and every way allows corner 1.
+-- by the usual way every choice,
+pub every-good-at-one : {ps : List Place} {cs : List ℕ} → Distinct ps → Corners (length ps) cs → Good Usual 1 ps cs
+every-good-at-one {cs = cs} places corners =
+    good-at-one places corners (λ i listed. uncrowded (none-crowded places i (cornerAt cs i) listed))
+
+-- and above the spot every choice of corners 1 and 2, which is what a good choice there is, at whatever side.
+pub upper-good-at-one : {ps : List Place} {cs : List ℕ} → Distinct ps → UpperCorners (length ps) cs → Good Above 1 ps cs
+upper-good-at-one places uppers = good-at-one places (uppers .corners) (λ i listed. upper (uppers .each-upper i listed))
+
+pub good-upper : {h : ℕ} {ps : List Place} {cs : List ℕ} → Good Above h ps cs → UpperCorners (length ps) cs
+good-upper good = record { corners = good .corners; each-upper = λ i listed. is-upper (good .allowed i listed) }
+
+-- Every way allows corner 1.
 one-allowed : {ps : List Place} → Distinct ps → (way : Way) (i : ℕ) → i < length ps → Allowed way 1 ps i 1
 one-allowed places Usual i listed = uncrowded (none-crowded places i 1 listed)
-one-allowed places Above i listed = at-most-two {c = 1} (omega arith)
+one-allowed places Above i listed = upper {c = 1} (omega arith)
 
 -- "A good choice exists at h = 1 always": corner 1 for every site.
 pub good-one-exists : {way : Way} {ps : List Place} → Distinct ps → Good way 1 ps (replicate (length ps) 1)
@@ -105,7 +118,7 @@ module _ {ps : List Place} (range : InRange ps) where
       uncrowded (λ crowded.
       none (crowded-at (λ j j-listed covers axis.
       record { onward = covers axis .onward; near = omega (arith, none-further listed j-listed axis) }) crowded))
-  allowed-at-free listed h (at-most-two low) = at-most-two low
+  allowed-at-free listed h (upper low) = upper low
 
   -- and so, "if a good choice exists at 20,001, it is good at every side".
   pub good-at-free : {way : Way} {cs : List ℕ} → Good way freeSide ps cs → (h : ℕ) → Good way h ps cs

@@ -13,7 +13,7 @@ use Rattle.placing.specs.declared.corner.Direction.the-variants.{Up, Dow
 use Rattle.placing.specs.rules.Units.{Axis, X, Y, along, inHalfUnits, dist}
 use Rattle.placing.specs.rules.Corner.{toward, opposite}
 use Rattle.placing.specs.rules.Label.{Onward, upward, downward, Fraction, Point, moved, AtSite, Inside, Covers, square, edge, pointOf}
-use Rattle.placing.specs.rules.Label.{Overlap, same-way, facing, Meet}
+use Rattle.placing.specs.rules.Label.{Overlap, same-direction, facing, Meet}
 use Rattle.placing.specs.deciding.Tests.{both, place-equal, same-or-opposite}
 use Rattle.placing.specs.theorems.Corner.{opposite-back}
 use Rattle.placing.specs.theorems.Label.{onward-as, onward-same, onward-turned, onward-either, onward-through, covers-along, covers-inside, reached-overlap}
@@ -61,7 +61,7 @@ module _ (p q : ℕ) (some-p : 1 ≤ p) (some-q : 1 ≤ q) where
 
   -- Labels that overlap along an axis have something in common there.
   overlap-shared : {d e : Direction} {a b : ℕ} → Overlap p q d a e b → Shared p q d a e b
-  overlap-shared {d} {e} {a} {b} (same-way same near) = begin-shared (omega (arith, near, ap raised same, dist-times a b q))
+  overlap-shared {d} {e} {a} {b} (same-direction same near) = begin-shared (omega (arith, near, ap raised same, dist-times a b q))
   overlap-shared {d} {e} {a} {b} (facing against onward near) = go (ℕ-discrete a b)
     where
       some : a ≢ b → 1 * q ≤ dist a b * q
@@ -155,7 +155,7 @@ module _ {p q : ℕ} (some-p : 1 ≤ p) where
       go : (d ≡ e) ⊎ (opposite d ≡ e) → Overlap p q d a e b
       go (inl same) =
           let alike = subst (λ d. Onward d (moved b t) (t .plus)) (sym same) (of-other .onward) in
-          same-way same (unscaled q p a b t (span-below q (of-one .onward) alike (of-one .near) (of-other .near)))
+          same-direction same (unscaled q p a b t (span-below q (of-one .onward) alike (of-one .near) (of-other .near)))
       go (inr against) =
           let back = subst (λ d. Onward d (t .plus) (moved b t)) (opposite-back against) (onward-turned (of-other .onward)) in
           let through = onward-through (of-one .onward) back in
@@ -182,7 +182,8 @@ covered-meets {p} {q} {s} {c} t covers e axis = ⊎-elim inside-overlap at-overl
     inside-overlap : Inside p q (toward axis c) (along axis s) (pointOf t axis)
         → Overlap p q (toward axis c) (along axis s) (toward axis e) (along axis t)
     inside-overlap within =
-        let twice : dist (moved (along axis s) (pointOf t axis)) (inHalfUnits (along axis t)) ≡ 2 * dist (along axis s) (along axis t) = omega arith in
+        let twice : dist (moved (along axis s) (pointOf t axis)) (inHalfUnits (along axis t)) ≡ 2 * dist (along axis s) (along axis t) =
+        omega arith in
         reached-overlap (onward-as (λ l. omega arith) (λ l. omega arith) (within .onward)) (omega (arith, rw twice at (within .near)))
 
     at-overlap : AtSite (along axis s) (pointOf t axis) → Overlap p q (toward axis c) (along axis s) (toward axis e) (along axis t)

@@ -35,7 +35,8 @@ module _ (h p q : ℕ) (twice : 2 * h * q < p) where
 
   -- A choice without two labels that meet at p/q is good at h + 1: a site in the doubled label of h + 1 would have a label that meets this
   -- one, at whichever corner.
-  apart-good : {ps : List Place} {cs : List ℕ} → 1 ≤ h → 1 ≤ q → Corners (length ps) cs → (MeetingPair p q ps cs → ⊥) → Good Usual (suc h) ps cs
+  apart-good : {ps : List Place} {cs : List ℕ} → 1 ≤ h → 1 ≤ q → Corners (length ps) cs → (MeetingPair p q ps cs → ⊥)
+      → Good Usual (suc h) ps cs
   apart-good some-h some-q corners none-meet =
       let wider : suc h * q ≤ 2 * h * q = mul-le-mul-right q (omega arith) in
       let wide : suc h * q ≤ p * 1 = omega arith in

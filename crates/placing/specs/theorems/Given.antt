@@ -43,7 +43,8 @@ judged-range Free is = (omega arith, omega arith)
 
 module _ (way : Way) (ps : List Place) where
   -- Where the search finds a good choice, that side with it is what choosing gives;
-  pub chosen-is : (side : Side) → isSide side ≡ true → isSome (firstGood way (judgedAt side) ps) ≡ true → IsChosen way ps (chosenAt way side ps)
+  pub chosen-is : (side : Side) → isSide side ≡ true → isSome (firstGood way (judgedAt side) ps) ≡ true
+      → IsChosen way ps (chosenAt way side ps)
   unfolding chosenAt
   chosen-is side given = by-search (firstGood way (judgedAt side) ps) refl
     where
@@ -85,7 +86,8 @@ answer-chosen (is-free first) = record { given = refl; first = first }
 answer-chosen (is-number not-free least most first above) = record { given = in-range least most; first = first }
 
 -- What is chosen at the side of the answer is the answer.
-pub chosen-answer : {way : Way} {ps : List Place} {chosen answer : Answer} → IsAnswer way ps answer → IsChosen way ps chosen → chosen .side ≡ answer .side
+pub chosen-answer : {way : Way} {ps : List Place} {chosen answer : Answer} → IsAnswer way ps answer → IsChosen way ps chosen
+    → chosen .side ≡ answer .side
     → chosen ≡ answer
 chosen-answer {way} {ps} {chosen} {answer} is is-chosen same =
     is-chosen-at is-chosen ∙ ap (λ (side : Side). chosenAt way side ps) same ∙ sym (is-chosen-at (answer-chosen is))

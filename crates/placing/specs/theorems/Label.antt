@@ -12,7 +12,7 @@ use Rattle.placing.specs.declared.corner.Direction.the-variants.{Up, Dow
 use Rattle.placing.specs.rules.Units.{Axis, X, Y, along, inHalfUnits, dist}
 use Rattle.placing.specs.rules.Corner.{toward, opposite}
 use Rattle.placing.specs.rules.Label.{Onward, upward, downward, Point, moved, AtSite, Inside, AtFarEdge, Covers, square}
-use Rattle.placing.specs.rules.Label.{edge, Overlap, same-way, facing, Meet}
+use Rattle.placing.specs.rules.Label.{edge, Overlap, same-direction, facing, Meet}
 use Rattle.placing.specs.deciding.Tests.{place-equal, same-or-opposite}
 use Rattle.placing.specs.theorems.Corner.{opposite-back}
 
@@ -90,7 +90,7 @@ module _ {p q : ℕ} {s : Place} {c : ℕ} {t : Point} where
 
 -- Whichever label is named first, the two overlap.
 pub overlap-symmetric : {p q : ℕ} {d e : Direction} {a b : ℕ} → Overlap p q d a e b → Overlap p q e b d a
-overlap-symmetric {p} {q} {a} {b} (same-way same near) = same-way (sym same) (subst (λ x. inHalfUnits x * q < p) (dist-symmetric a b) near)
+overlap-symmetric {p} {q} {a} {b} (same-direction same near) = same-direction (sym same) (subst (λ x. inHalfUnits x * q < p) (dist-symmetric a b) near)
 overlap-symmetric {p} {q} {a} {b} (facing against onward near) =
     facing (opposite-back against) (subst (λ e. Onward e b a) against (onward-turned onward))
     (subst (λ x. x * q < p) (dist-symmetric a b) near)
@@ -101,7 +101,7 @@ meet-symmetric meet axis = overlap-symmetric (meet axis)
 
 -- Labels that overlap are less than their side apart.
 pub overlap-near : {p q : ℕ} {d e : Direction} {a b : ℕ} → Overlap p q d a e b → dist a b * q < p
-overlap-near (same-way same near) = omega (arith, near)
+overlap-near (same-direction same near) = omega (arith, near)
 overlap-near (facing against onward near) = near
 
 -- What a label has ahead within its own length is overlapped there, whichever way the other label goes.
@@ -109,7 +109,7 @@ pub reached-overlap : {p q : ℕ} {d e : Direction} {a b : ℕ} → Onward d a b
 reached-overlap {p} {q} {d} {e} {a} {b} onward near = go (same-or-opposite d e)
   where
     go : (d ≡ e) ⊎ (opposite d ≡ e) → Overlap p q d a e b
-    go (inl same) = same-way same near
+    go (inl same) = same-direction same near
     go (inr against) = facing against onward (omega (arith, near))
 
 -- Labels of side 1 at different places do not meet.
@@ -119,7 +119,7 @@ meet-one meet = place-equal (λ axis. omega (arith, overlap-near (meet axis)))
 -- Labels that overlap at one side overlap at another, if the lengths up to twice their distance that are below the one are below the other.
 pub overlap-at : {p q p′ q′ : ℕ} {d e : Direction} {a b : ℕ} → ((x : ℕ) → x ≤ inHalfUnits (dist a b) → x * q < p → x * q′ < p′)
     → Overlap p q d a e b → Overlap p′ q′ d a e b
-overlap-at below (same-way same near) = same-way same (below _ (omega arith) near)
+overlap-at below (same-direction same near) = same-direction same (below _ (omega arith) near)
 overlap-at below (facing against onward near) = facing against onward (below _ (omega arith) near)
 
 module _ {p q p′ q′ : ℕ} (some-parts : 1 ≤ q′) (larger : p * q′ ≤ p′ * q) where

@@ -39,7 +39,7 @@ fits-decides way h ps cs i =
     (both-decide (allowed-decides way h ps i (cornerAt cs i))
     (all-decides _ i (λ j. not-decides (meet-decides h 1 (siteAt ps j) (cornerAt cs j) (siteAt ps i) (cornerAt cs i)))))
 
--- The first good way to go on from the corners `before` with n corners more.
+-- The first n corners with which to go on from the corners `before`.
 abbrev pub goOn : Way → ℕ → List Place → (n : ℕ) → (before : List ℕ) → Option (List ℕ)
 goOn way h ps zero before = some []
 goOn way h ps (suc n) before =
@@ -111,7 +111,8 @@ module _ (way : Way) (h : ℕ) (ps : List Place) where
         (sym (List·getD-append (before ++ c ∷ []) cs 0 j (omega (arith, one-more))))
 
     -- Where c fits, what follows fits after c exactly when both do.
-    by-fit : {n : ℕ} {o : Option (List ℕ)} (b : Bool) → Decides b (Fits way h ps (before ++ c ∷ []) (length before)) → length before < length ps
+    by-fit : {n : ℕ} {o : Option (List ℕ)} (b : Bool) → Decides b (Fits way h ps (before ++ c ∷ []) (length before))
+        → length before < length ps
         → FirstWith (FitAfter n (before ++ c ∷ [])) o
         → FirstWith (λ cs. Corners n cs × FitsFrom (length before) (before ++ c ∷ cs)) (elim b [ true ↦ o | false ↦ none ])
     by-fit true fit listed rest =

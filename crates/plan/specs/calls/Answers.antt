@@ -89,7 +89,8 @@ abbrev pub sideAnswer : Result Side → AskedSide
 sideAnswer (accepted side) = SideIs side
 sideAnswer (refused why) = NoSide why
 
--- Finding the side by a way, and the table afterwards, by either. L1: "Finding leaves the plan as it was": it hands back none.
+-- Finding the side by a way, and the table afterwards, which looks at the tests alone: it is the same by either way. L1: "Finding leaves the
+-- plan as it was": it hands back none.
 abbrev pub sideFound : Plan → Way → List ℕ → Result Side
 sideFound plan way table = afterTests (findingTests (plan .count) (length table)) (answerOf way (placesOf (sitesIn plan)) .side)
 

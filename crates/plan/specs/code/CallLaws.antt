@@ -138,7 +138,8 @@ module _ {plan : Plan} (valid : Valid plan) (way : Way) (side : Side) (table : L
   module _ (early : firstRefusal (beforeChoice side (plan .count) (length table)) ≡ none) {r : Planned} {left : List ℕ}
       (left-is : left ≡ cleared (plan .count) table) where
     -- Where no good choice exists, the table alone is changed.
-    pub choose-none : existsAt way side (sitesIn plan) ≡ false → r ≡ refusal-of plan why.NoGoodChoice → ChoosePromised plan way side table r left
+    pub choose-none : existsAt way side (sitesIn plan) ≡ false → r ≡ refusal-of plan why.NoGoodChoice
+        → ChoosePromised plan way side table r left
     choose-none none-good is =
         choose-promised (some why.NoGoodChoice) none
         (first-late (beforeChoice side (plan .count) (length table)) (noGood (existsAt way side (sitesIn plan)) ∷ []) early ∙ rw none-good) early is left-is

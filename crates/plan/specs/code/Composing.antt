@@ -175,7 +175,8 @@ module _ (sites : List Site) (way : Way) (answer : Answer) (listed : Listed site
 
   -- One site more is one line more,
   one-line-held : (i : ℕ) → i < length sites
-      → linesTo (placedWith sites way answer) (suc i) ≡ linesTo (placedWith sites way answer) i ++ siteLineEnded (siteHeld (placedWith sites way answer) i) (getD (placedWith sites way answer .corners) i 0)
+      → linesTo (placedWith sites way answer) (suc i) ≡ linesTo (placedWith sites way answer) i
+      ++ siteLineEnded (siteHeld (placedWith sites way answer) i) (getD (placedWith sites way answer .corners) i 0)
   unfolding placedWith
   one-line-held i below =
       lines-held (suc i)

@@ -1,6 +1,6 @@
--- Document 01, "Known answers": the cases marked P, some at given sides, and some above, document 02, L2, as rows of one table with a theorem
--- over the rows: what the calls of starting, entering, finding and choosing lead to. Each row is tested by entering its sites and by the
--- pruned search, which the checker computes, so that a row more needs no proof.
+-- Document 01, "Known answers": the cases marked P; and document 02, cases at given sides, L1, and above the spot, L2. They are rows of one
+-- table with a theorem over the rows: what the calls of starting, entering, finding and choosing lead to. Each row is tested by entering its
+-- sites and by the pruned search, which the checker computes, so that a row more needs no proof.
 -- Assumes nothing.
 use mathlib.Core.Path.{_≡_, refl, sym, ap, _∙_, subst}
 use mathlib.Core.Bool.{Bool, true, false, not, _&&_}
@@ -85,8 +85,8 @@ number h = Number (record { 0 = h })
 abbrev pub at : (letter x y : ℕ) → Entry
 at letter x y = record { name = letter ∷ []; x = x; y = y }
 
--- The lists of which more than one row speaks: one site, two side by side, the unit square, four and five on the diagonal, A, B, C, and
--- nine in three rows.
+-- The lists of which more than one row speaks: one site, two side by side, the unit square, four and five on the diagonal, A, B, C, nine
+-- in three rows, and three in a row.
 abbrev pub alone : List Entry
 alone = at 65 5 5 ∷ []
 
@@ -108,7 +108,10 @@ column = at 65 10 10 ∷ at 66 10 14 ∷ at 67 10 20 ∷ []
 abbrev pub nine : List Entry
 nine = at 65 0 0 ∷ at 66 1 0 ∷ at 67 2 0 ∷ at 68 0 1 ∷ at 69 1 1 ∷ at 70 2 1 ∷ at 71 0 2 ∷ at 72 1 2 ∷ at 73 2 2 ∷ []
 
--- Document 01's cases, in its order, and placing a plan of no sites; then those at given sides; then those above.
+abbrev pub inRow : List Entry
+inRow = at 65 0 0 ∷ at 66 3 0 ∷ at 67 10 0 ∷ []
+
+-- Document 01's cases, in its order, and placing a plan of no sites; then those at given sides; then those above the spot.
 abbrev pub rows : List Row
 rows =
     row Usual alone (answered (free (1 ∷ [])))
@@ -146,13 +149,20 @@ rows =
     ∷ row Above column (answered (numbered 8 (1 ∷ 1 ∷ 1 ∷ [])))
     ∷ row Above fourDiagonal (answered (numbered 2 (1 ∷ 1 ∷ 1 ∷ 1 ∷ [])))
     ∷ row Above nine (answered (numbered 2 (1 ∷ 1 ∷ 1 ∷ 1 ∷ 1 ∷ 1 ∷ 1 ∷ 1 ∷ 1 ∷ [])))
-    ∷ row Above (at 65 0 0 ∷ at 66 3 0 ∷ at 67 10 0 ∷ []) (answered (numbered 14 (2 ∷ 1 ∷ 1 ∷ [])))
+    ∷ row Above inRow (answered (numbered 14 (2 ∷ 1 ∷ 1 ∷ [])))
     ∷ row Above pair (answered (free (2 ∷ 1 ∷ [])))
     ∷ row Above alone (answered (free (1 ∷ [])))
+    ∷ given Above inRow (number 6) (answered (numbered 6 (1 ∷ 1 ∷ 1 ∷ [])))
+    ∷ given Above inRow (number 7) (answered (numbered 7 (2 ∷ 1 ∷ 1 ∷ [])))
+    ∷ given Above inRow (number 15) (refusedAt 3 12)
+    ∷ given Above column (number 6) (answered (numbered 6 (1 ∷ 1 ∷ 1 ∷ [])))
+    ∷ given Above column Free (refusedAt 3 12)
+    ∷ given Above [] (number 0) (refusedAt 0 3)
+    ∷ given Above [] Free (refusedAt 0 8)
     ∷ []
 
 -- So many rows: one that is left out is missed.
-pub rows-count : length rows ≡ 32
+pub rows-count : length rows ≡ 39
 rows-count = refl
 
 -- ---- what entries lead to

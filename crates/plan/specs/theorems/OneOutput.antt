@@ -1,4 +1,4 @@
--- The demands name one output: whoever answers a text by them writes the same bytes.
+-- The demands name one output: whoever answers a text by them, by the same way, writes the same bytes.
 -- Assumes nothing.
 use mathlib.Core.Path.{_≡_, refl, sym, ap, ap₂, _∙_, subst}
 use mathlib.Core.Bool.{true, true≢false}
@@ -50,7 +50,7 @@ accepted-same {one = one} {other = other} a b =
     let same : accepted one ≡ accepted other = reads-unique (a .read) (b .read) in
     cc
 
--- Two outputs for the same text are one.
+-- Two outputs for the same text by the same way are one.
 pub answered-one : {way : Way} {text one other : List ℕ} → Answered way text one → Answered way text other → one ≡ other
 answered-one (refusal-line r is) (refusal-line s so) = is ∙ ap refusalLine (refused-one r s) ∙ sym so
 answered-one (refusal-line r is) (list-sheet b) = absurd (refused-list-not-accepted r (b .accepts))

@@ -60,7 +60,7 @@ use Rattle.plan.specs.theorems.Tables.{number-small}
 use Rattle.plan.specs.theorems.Reading.{reads-are, reads-so, read-listed, read-list, read-condition}
 use Rattle.plan.specs.theorems.Sheet.{chosen-lined, answer-listed, sheet-longest, some-to-place}
 use Rattle.plan.specs.calls.Lengths.{mostDigits, longestSheet, longestRefusalLine}
-use Rattle.plan.specs.theorems.ReadOff.{sheet-carries, sheet-again, sheet-again-at, labels-apart, guaranteed, side-on-sheet, number-read, spots-on-sheet}
+use Rattle.plan.specs.theorems.ReadOff.{sheet-carries, sheet-again, sheet-again-at, sheet-apart, guaranteed, side-on-sheet, number-read, spots-on-sheet}
 
 -- Demands 2 and 3 of the sheet of some sites.
 pub sheet-right : (way : Way) (sites : List Site) → Listed sites → 1 ≤ length sites → RightSheet way sites (sheetOf way sites)
@@ -78,7 +78,7 @@ sheet-right way sites listed some-sites =
       spots = spots-on-sheet answer each;
       list = sheet-carries answer each;
       again = sheet-again way sites listed some-sites;
-      free-apart = labels-apart sites listed chosen;
+      free-apart = sheet-apart sites listed chosen;
       guarantee = guaranteed way is-answer each;
     }
 
@@ -88,7 +88,8 @@ prints-found : {way : Way} {a : Answer} (sites : List Site) → Listed sites →
 unfolding sheetOf
 prints-found {way} {a} sites listed chosen prints =
     let each = chosen-lined sites listed chosen in
-    let is : IsAnswer way (placesOf sites) (prints .found) = subst (λ (ps : List Place). IsAnswer way ps (prints .found)) (spots-on-sheet a each) (prints .is-answer) in
+    let is : IsAnswer way (placesOf sites) (prints .found) =
+    subst (λ (ps : List Place). IsAnswer way ps (prints .found)) (spots-on-sheet a each) (prints .is-answer) in
     let side : some (a .side) ≡ some (prints .found .side) = sym (side-on-sheet a each) ∙ prints .printed in
     let same : a .side ≡ prints .found .side = cc in
     ap (sheetWith sites) (chosen-answer is chosen same ∙ is-answer-of (listed .places-distinct) is)
@@ -109,6 +110,7 @@ sheet-placed {way} {a} sites listed some-sites chosen =
           let side : some (a .side) ≡ some printed = sym (side-on-sheet a each) ∙ is in
           let same : a .side ≡ printed = cc in
           subst (λ (s : Side). outputAt way s (carried (sheetWith sites a)) ≡ sheetWith sites a) same (sheet-again-at sites listed some-sites chosen);
+      free-apart = sheet-apart sites listed chosen;
       at-found = λ prints.
           subst (RightSheet way sites) (sym (prints-found sites listed chosen prints)) (sheet-right way sites listed some-sites);
     }
@@ -195,7 +197,8 @@ pub data ToPlaceAt (way : Way) (side : Side) (text : List ℕ) : Result (List Si
   is-placed-at : {sites : List Site} → Accepts text sites → IsChosen way (placesOf sites) (chosenAt way side (placesOf sites))
       → ToPlaceAt way side text (accepted sites)
 
-pub text-to-place-at : (way : Way) (side : Side) (text : List ℕ) → ToPlaceAt way side text (toPlaceAt side (existsAt way side) (readList text))
+pub text-to-place-at : (way : Way) (side : Side) (text : List ℕ)
+    → ToPlaceAt way side text (toPlaceAt side (existsAt way side) (readList text))
 text-to-place-at way side text = by-side (isSide side) refl
   where
     by-choice : isSide side ≡ true → (sites : List Site) → Accepts text sites → (exists : Bool) → existsAt way side sites ≡ exists
@@ -233,7 +236,8 @@ pub list-told-at : (way : Way) (side : Side) (text : List ℕ) {r : Planned} →
 unfolding chosenAt
 list-told-at way side text is = subst (ListToldAt way side text) (sym is) (by-sites (text-to-place-at way side text))
   where
-    by-sites : {sites : Result (List Site)} → ToPlaceAt way side text sites → ListToldAt way side text (handed (placedAt way side) started sites)
+    by-sites : {sites : Result (List Site)} → ToPlaceAt way side text sites
+        → ListToldAt way side text (handed (placedAt way side) started sites)
     by-sites (not-placed-at reason) = refused-at reason refl
     by-sites (is-placed-at {sites} accepts chosen) = placed-at sites (chosenAt way side (placesOf sites) .corners) accepts chosen refl refl
 

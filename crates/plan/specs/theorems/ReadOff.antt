@@ -13,7 +13,7 @@ use Rattle.placing.specs.declared.units.Side.the-variants.{Number, Free}
 use Rattle.placing.specs.declared.way.Way.{Way}
 use Rattle.placing.specs.declared.way.Way.the-variants.{Usual, Above}
 use Rattle.placing.specs.rules.Units.{along, X, Y}
-use Rattle.placing.specs.rules.Choice.{Corners, AboveCorners, MeetingPair, Good}
+use Rattle.placing.specs.rules.Choice.{Corners, UpperCorners, MeetingPair, Good}
 use Rattle.placing.specs.rules.Answer.{Answer, judgedAt, sideNumber, numbered, IsAnswer, is-free, is-number, IsChosen}
 use Rattle.placing.specs.deciding.Answer.{isSome}
 use Rattle.placing.specs.theorems.Choice.{free-apart}
@@ -24,7 +24,7 @@ use Rattle.plan.specs.rules.Text.{tab, fieldsOf, Without, numberIn, digi
 use Rattle.plan.specs.rules.List.{Site, placesOf, wantedIn, Listed, ByRules, listLine, listText}
 use Rattle.plan.specs.rules.Sheet.{sideWord, freeWord, sideText, numberedSide, sideIn, sideLine, siteLine, sheetWith, sideOnFields, sideOn, numberPrinted, numberOn, spotsOnLines, spotsOn, carriedLines, carried, joined, butLast}
 use Rattle.plan.specs.deciding.Output.{sheetOf, sheetAt, outputOf, outputAt}
-use Rattle.plan.specs.Demands.{Guarantee}
+use Rattle.plan.specs.Demands.{FreeApart, Guarantee}
 use Rattle.plan.specs.theorems.Text.{parted-one, parted-more, same-bytes-same, same-bytes-refl, number-decimal, decimal-number, decimal-without, name-without}
 use Rattle.plan.specs.theorems.Sites.{listed-in-range}
 use Rattle.plan.specs.theorems.Reading.{list-read}
@@ -153,14 +153,22 @@ spots-on-sheet a each = ap (λ (lines : List (List ℕ)). spotsOnLines (drop 1 l
 
 -- ---- free
 
--- Where the side is free, the labels on a sheet meet at no side.
-pub labels-apart : {way : Way} {a : Answer} (sites : List Site) → Listed sites → IsChosen way (placesOf sites) a → a .side ≡ Free
-    → (p q : ℕ) → MeetingPair p q (spotsOn (sheetWith sites a)) (a .corners) → ⊥
-labels-apart {way} {a} sites listed chosen is p q =
-    let good = subst (λ (side : Side). Good way (judgedAt side) (placesOf sites) (a .corners)) is (chosen .first .good) in
-    rw (spots-on-sheet a (chosen-lined sites listed chosen)) (free-apart (listed-in-range listed) good p q)
+-- Where a sheet prints free, the labels at what was chosen for it meet at no side.
+pub sheet-apart : {way : Way} {a : Answer} (sites : List Site) → Listed sites → IsChosen way (placesOf sites) a
+    → FreeApart (sheetWith sites a) (a .corners)
+sheet-apart {way} {a} sites listed chosen = record { none-meet = λ printed p q. by-side (is-free-side printed) p q }
+  where
+    is-free-side : sideOn (sheetWith sites a) ≡ some Free → a .side ≡ Free
+    is-free-side printed =
+        let side : some (a .side) ≡ some Free = sym (side-on-sheet a (chosen-lined sites listed chosen)) ∙ printed in
+        cc
 
--- ---- demand 3, and what stands for it above
+    by-side : a .side ≡ Free → (p q : ℕ) → MeetingPair p q (spotsOn (sheetWith sites a)) (a .corners) → ⊥
+    by-side is p q =
+        let good = subst (λ (side : Side). Good way (judgedAt side) (placesOf sites) (a .corners)) is (chosen .first .good) in
+        rw (spots-on-sheet a (chosen-lined sites listed chosen)) (free-apart (listed-in-range listed) good p q)
+
+-- ---- demand 3, and what stands for it above the spot
 
 -- An answer whose side has a number is that number's.
 numbered-answer : {way : Way} {ps : List Place} {a : Answer} {number : ℕ} → IsAnswer way ps a → sideNumber (a .side) ≡ some number
@@ -177,8 +185,8 @@ of-sheet : {way : Way} {a : Answer} {sites : List Site} {number : ℕ} (Q : ℕ 
 of-sheet {a = a} {number = number} Q holds is-answer each is =
     subst (Q number) (sym (spots-on-sheet a each)) (holds number (a .corners) (numbered-answer is-answer (sym (number-read a each) ∙ is)))
 
--- A sheet with the answer has what its way guarantees: above twice its number by the usual way, above the number itself with corners 1
--- and 2, every rival has two labels that meet.
+-- A sheet with the answer has what its way guarantees: at sides greater than twice its number every rival has two labels that meet; above
+-- the spot, at sides greater than the number itself, every rival with corners 1 and 2.
 pub guaranteed : (way : Way) {a : Answer} {sites : List Site} → IsAnswer way (placesOf sites) a → Lined sites (a .corners)
     → Guarantee way (sheetWith sites a)
 guaranteed Usual is-answer each =
@@ -190,6 +198,6 @@ guaranteed Usual is-answer each =
 guaranteed Above is-answer each =
     record {
       rivals-meet = λ number p q is some-q.
-          of-sheet (λ h ps. h * q < p → (corners : List ℕ) → AboveCorners (length ps) corners → MeetingPair p q ps corners)
+          of-sheet (λ h ps. h * q < p → (corners : List ℕ) → UpperCorners (length ps) corners → MeetingPair p q ps corners)
           (λ h cs answer. answer-exact answer p q) is-answer each is;
     }

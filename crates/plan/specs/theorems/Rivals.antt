@@ -1,5 +1,6 @@
--- Demand 3 in the picture: whoever takes a side above twice the number that a sheet prints draws two labels that cover a common point; with
--- corners 1 and 2 on a sheet above, so does whoever takes a side above the number itself. A sheet's own labels do not where it is free.
+-- Demand 3 in the picture: whoever takes a side greater than twice the number that a sheet prints draws two labels that cover a common
+-- point. For a sheet placed above the spot, so does whoever takes a side greater than the number itself and corners 1 and 2. A sheet's own
+-- labels do not, where it prints free.
 -- Assumes nothing.
 use mathlib.Core.Path.{_≡_, _∙_, ap, subst}
 use mathlib.Core.List.{List}
@@ -15,7 +16,7 @@ use Rattle.placing.specs.declared.way.Way.{Way}
 use Rattle.placing.specs.declared.way.Way.the-variants.{Usual, Above}
 use Rattle.placing.specs.rules.Units.{siteAt, Distinct}
 use Rattle.placing.specs.rules.Label.{Point, Covers, pointOf}
-use Rattle.placing.specs.rules.Choice.{cornerAt, Corners, AboveCorners, MeetingPair}
+use Rattle.placing.specs.rules.Choice.{cornerAt, Corners, UpperCorners, MeetingPair}
 use Rattle.placing.specs.rules.Answer.{Answer, judgedAt, numbered, sideNumber, IsAnswer, IsChosen}
 use Rattle.placing.specs.theorems.Answer.{answer-unique}
 use Rattle.placing.specs.theorems.Choice.{meeting-of}
@@ -23,7 +24,7 @@ use Rattle.placing.specs.theorems.CommonPoint.{meet-exactly, covered-meets}
 use Rattle.plan.specs.rules.List.{Site, Listed, placesOf}
 use Rattle.plan.specs.rules.Sheet.{sideOn, numberOn, spotsOn}
 use Rattle.plan.specs.declared.plan.Written.the-variants.{Bytes}
-use Rattle.plan.specs.Demands.{NoRival, NoRivalAbove, Guarantee, RightSheet, PrintsFound, PlacedSheet, SheetWritten}
+use Rattle.plan.specs.Demands.{NoRival, NoRivalAbove, Guarantee, FreeApart, RightSheet, PrintsFound, PlacedSheet, SheetWritten}
 
 -- The labels of some two of these places, at these corners and the side p/q, cover a common point.
 pub record CommonPoint (p q : ℕ) (ps : List Place) (cs : List ℕ) : Type 0 where
@@ -52,7 +53,7 @@ meeting-common {p} {q} some-p some-q places pair =
       by-second = common .2;
     }
 
--- and two that do meet.
+-- and two that cover a common point meet.
 common-meeting : {p q : ℕ} {ps : List Place} {cs : List ℕ} → 1 ≤ p → 1 ≤ q → Distinct ps → CommonPoint p q ps cs → MeetingPair p q ps cs
 common-meeting {p} {q} some-p some-q places common =
     let differ = places .distinct (common .first) (common .second) (common .first-listed) (common .second-listed) (common .different) in
@@ -65,24 +66,26 @@ common-meeting {p} {q} some-p some-q places common =
       meet = meet-exactly p q some-p some-q differ .1 (common .point, common .by-first, common .by-second);
     }
 
--- So do two labels of every rival, for every number that the sheet prints and every p/q above twice it. Demand 3 is a hypothesis here:
+-- So do two labels of every rival, for every number that the sheet prints and every p/q greater than twice it. Demand 3 is a hypothesis here:
 -- with a premise more it would not be enough.
 pub rivals-common : {sheet : List ℕ} → NoRival sheet → Distinct (spotsOn sheet) → (number p q : ℕ) → numberOn sheet ≡ some number → 1 ≤ q
     → 2 * number * q < p → (corners : List ℕ) → Corners (length (spotsOn sheet)) corners → CommonPoint p q (spotsOn sheet) corners
 rivals-common no-rival spots number p q printed some-q above corners each =
     meeting-common (omega arith) some-q spots (no-rival .rivals-meet number p q printed some-q above corners each)
 
--- The same above, for every p/q above the number and corners 1 and 2.
+-- The same above the spot, for every p/q greater than the number and corners 1 and 2.
 pub rivals-common-above : {sheet : List ℕ} → NoRivalAbove sheet → Distinct (spotsOn sheet) → (number p q : ℕ) → numberOn sheet ≡ some number
-    → 1 ≤ q → number * q < p → (corners : List ℕ) → AboveCorners (length (spotsOn sheet)) corners → CommonPoint p q (spotsOn sheet) corners
+    → 1 ≤ q → number * q < p → (corners : List ℕ) → UpperCorners (length (spotsOn sheet)) corners → CommonPoint p q (spotsOn sheet) corners
 rivals-common-above no-rival spots number p q printed some-q above corners each =
     meeting-common (omega arith) some-q spots (no-rival .rivals-meet number p q printed some-q above corners each)
 
--- A rival of n lines by each way: its side p/q is past what the way guarantees of a number h, and these are its corners.
+-- A rival of n lines by each way, said a second time so that a guarantee with a premise more is not enough: its side p/q is greater than
+-- what the way guarantees of a number h, and these are its corners.
 abbrev pub Rival : Way → (h p q n : ℕ) → List ℕ → Type 0
 Rival Usual h p q n corners = (2 * h * q < p) × Corners n corners
-Rival Above h p q n corners = (h * q < p) × AboveCorners n corners
+Rival Above h p q n corners = (h * q < p) × UpperCorners n corners
 
+-- By each way two labels of every rival cover a common point.
 guaranteed-common : (way : Way) (sheet : List ℕ) → Guarantee way sheet → Distinct (spotsOn sheet) → (number p q : ℕ)
     → numberOn sheet ≡ some number → 1 ≤ q → (corners : List ℕ) → Rival way number p q (length (spotsOn sheet)) corners
     → CommonPoint p q (spotsOn sheet) corners
@@ -102,12 +105,20 @@ right-common {way} {sheet = sheet} listed right {h} is p q some-q corners =
     subst (λ (ps : List Place). Rival way h p q (length ps) corners → CommonPoint p q ps corners) (right .spots)
     (guaranteed-common way sheet (right .guarantee) spots h p q printed some-q corners)
 
--- Over a right sheet that is free no two of its own labels cover a common point, at whatever side.
-pub free-common : {way : Way} {sites : List Site} {sheet : List ℕ} → Listed sites → (right : RightSheet way sites sheet)
-    → right .answer .side ≡ Free → (p q : ℕ) → 1 ≤ p → 1 ≤ q → CommonPoint p q (spotsOn sheet) (right .answer .corners) → ⊥
-free-common {sheet = sheet} listed right is p q some-p some-q common =
-    let spots : Distinct (spotsOn sheet) = rw (right .spots) (listed .places-distinct) in
-    right .free-apart is p q (common-meeting some-p some-q spots common)
+-- Where a sheet prints free, no two of its own labels cover a common point, at whatever side: so over a right sheet,
+free-common : {sheet corners : List ℕ} → FreeApart sheet corners → Distinct (spotsOn sheet) → sideOn sheet ≡ some Free → (p q : ℕ)
+    → 1 ≤ p → 1 ≤ q → CommonPoint p q (spotsOn sheet) corners → ⊥
+free-common apart spots printed p q some-p some-q common = apart .none-meet printed p q (common-meeting some-p some-q spots common)
+
+pub right-free-common : {way : Way} {sites : List Site} {sheet : List ℕ} → Listed sites → (right : RightSheet way sites sheet)
+    → sideOn sheet ≡ some Free → (p q : ℕ) → 1 ≤ p → 1 ≤ q → CommonPoint p q (spotsOn sheet) (right .answer .corners) → ⊥
+right-free-common listed right = free-common (right .free-apart) (rw (right .spots) (listed .places-distinct))
+
+-- and over one that was placed at free.
+pub placed-free-common : {way : Way} {sites : List Site} {side : Side} {sheet : List ℕ} → Listed sites
+    → (placed : PlacedSheet way sites side sheet) → sideOn sheet ≡ some Free → (p q : ℕ) → 1 ≤ p → 1 ≤ q
+    → CommonPoint p q (spotsOn sheet) (placed .corners) → ⊥
+placed-free-common listed placed = free-common (placed .free-apart) (rw (placed .spots) (listed .places-distinct))
 
 -- Rivals of a sheet at whatever side, where it prints the side found for its spots.
 pub placed-common : {way : Way} {sites : List Site} {side : Side} {sheet : List ℕ} → Listed sites → PlacedSheet way sites side sheet

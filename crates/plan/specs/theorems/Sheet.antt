@@ -15,7 +15,7 @@ use Rattle.placing.specs.declared.way.Way.the-variants.{Usual, Above}
 use Rattle.placing.specs.rules.Units.{freeSide, along, X, Y}
 use Rattle.placing.specs.rules.Corner.{Corner}
 use Rattle.placing.specs.rules.Crowd.{Crowded}
-use Rattle.placing.specs.rules.Choice.{Corners, cornerAt, Allowed, uncrowded, at-most-two, Good}
+use Rattle.placing.specs.rules.Choice.{Corners, cornerAt, Allowed, uncrowded, upper, Good}
 use Rattle.placing.specs.rules.Answer.{Answer, isSide, IsAnswer, is-free, is-number, IsChosen}
 use Rattle.placing.specs.deciding.Answer.{answerOf}
 use Rattle.placing.specs.theorems.Answer.{answer-is}
@@ -66,7 +66,7 @@ alone-good way h p =
 
     allowed : (way : Way) → Allowed way h (p ∷ []) 0 1
     allowed Usual = uncrowded (λ (crowded : Crowded h (p ∷ []) 0 1). crowded .different (omega (arith, crowded .listed)))
-    allowed Above = at-most-two {c = 1} (omega arith)
+    allowed Above = upper {c = 1} (omega arith)
 
 -- So the side of one site is the word free.
 alone-free : {way : Way} {p : Place} {a : Answer} → IsAnswer way (p ∷ []) a → 4 ≤ length (sideText (a .side))

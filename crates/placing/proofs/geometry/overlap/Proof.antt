@@ -6,7 +6,7 @@ use Rattle.placing.specs.declared.corner.Direction.{Direction}
 use Rattle.placing.specs.rules.Corner.{opposite}
 use native.Mathlib.Omega.{arith}
 use Rattle.placing.specs.deciding.Decides.{decides-same, decides-second, decides-no}
-use Rattle.placing.specs.deciding.Tests.{same-or-opposite, same-way-decides, facing-decides}
+use Rattle.placing.specs.deciding.Tests.{same-or-opposite, same-direction-decides, facing-decides}
 use borrow.Author.Needs.{needs}
 use Rattle.placing.proofs.geometry.overlap.Statement.{statement}
 use Rattle.placing.proofs.geometry.overlap.Tie as tie
@@ -27,7 +27,7 @@ below-requires c κs = search needs
 returns : tie.Need-returns
 returns c =
     let tested = c .before .before in
-    same-way-decides (tested .before .same-direction .ensures .yes-holds (tested .if1 .taken))
+    same-direction-decides (tested .before .same-direction .ensures .yes-holds (tested .if1 .taken))
     (decides-same (λ near. omega arith) (λ near. omega arith) (c .below .ensures))
 
 onward-requires : tie.Need-onward-requires

@@ -6,17 +6,20 @@ use Prim.Native.Nat.{ℕ, zero, suc, _≤_}
 use native.Mathlib.Omega.{arith}
 use lib.ListN.{length, getD, take, drop, length-take}
 use lib.Seq.{take-all, take-at}
+use Rattle.placing.specs.declared.units.Side.{Side}
 use Rattle.placing.specs.declared.way.Way.{Way}
 use Rattle.plan.specs.rules.List.{longestText}
 use Rattle.plan.specs.rules.Sheet.{sheetWith}
 use Rattle.plan.specs.rules.Calls.{filledWith}
-use Rattle.plan.specs.Demands.{refusal-line, list-sheet, refusal-at, sheet-at}
+use Rattle.plan.specs.Demands.{Answered, refusal-line, list-sheet, AnsweredAt, refusal-at, sheet-at}
 use Rattle.plan.specs.theorems.Longer.{output-first, output-first-at}
 use Rattle.plan.specs.theorems.Output.{output-answered, output-answered-at, output-within}
 use Rattle.place.specs.declared.asked.At.{At}
 use Rattle.place.specs.declared.asked.At.the-variants.{Found, Given}
+use Rattle.place.specs.declared.answer.Reading.{Reading}
 use Rattle.place.specs.declared.answer.Answer.{Answer}
 use Rattle.place.specs.declared.answer.Answer.the-variants.{Output, Unread}
+use Rattle.place.specs.Input.{Finished, Sound}
 use Rattle.place.specs.Reply.{outputBy, AnsweredBy, OutputFor, Replied, IsRefused, Writable}
 
 -- What `output` leaves for the bytes read is the output for every input that starts with them.
@@ -73,3 +76,24 @@ replied-writable way at start room (Output reading n) buffer replied =
       is-refused = letter-refuses way at (take (reading .at) room) n buffer refl (replied .output-for .answered (take (reading .at) room) read);
     }
 replied-writable way at start room (Unread reading) buffer replied = tt
+
+-- ---- what a reply says
+
+module _ {way : Way} {at : At} {start room : List ℕ} {reading : Reading} {n : ℕ} {buffer : List ℕ}
+    (replied : Replied way at start room (Output reading n) buffer) (input : List ℕ)
+    (first : take longestText input ≡ take (reading .at) room) where
+  -- For every input that starts with the bytes read it is the output, by the way and at the side asked for,
+  pub replied-output : take n buffer ≡ outputBy way at input
+  replied-output = replied .output-for .output input first
+
+  -- which meets the demands: at the side found,
+  pub replied-found : at ≡ Found → Answered way input (take n buffer)
+  replied-found is = rw is at (replied .output-for .answered input first)
+
+  -- and at a given side.
+  pub replied-given : {side : Side} → at ≡ Given side → AnsweredAt way side input (take n buffer)
+  replied-given is = rw is at (replied .output-for .answered input first)
+
+  -- Reading was over, and no read failed.
+  pub replied-read : Finished reading room × Sound (reading .last)
+  replied-read = (replied .input-read .finished, replied .sound)

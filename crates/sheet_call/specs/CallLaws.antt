@@ -10,11 +10,12 @@ use Prim.Native.Nat.{ℕ, _≤_, _<_}
 use native.Mathlib.Omega.{arith}
 use borrow.Author.Tests.{ltb-true, lt-leb, ne-eqb}
 use lib.Dec.{leb, ltb}
-use lib.ListN.{length, drop}
+use lib.ListN.{length, take, drop}
 use lib.Seq.{take-append-seam}
 use Rattle.placing.specs.declared.units.Side.{Side}
 use Rattle.placing.specs.declared.units.Side.the-variants.{Number}
 use Rattle.placing.specs.declared.way.Way.{Way}
+use Rattle.placing.specs.declared.way.Way.the-variants.{Usual, Above}
 use Rattle.placing.specs.rules.Units.{greatestSide}
 use Rattle.placing.specs.rules.Answer.{Answer, isSide, IsChosen}
 use Rattle.placing.specs.deciding.Answer.{answerOf, chosenAt}
@@ -35,6 +36,7 @@ use Rattle.plan.specs.deciding.Output.{sheetOf, sheetAt, outputFor, outputOf, o
 use Rattle.plan.specs.calls.Lengths.{shortestSheet, shortestSheetAt}
 use Rattle.plan.specs.calls.Plan.{placedWith}
 use Rattle.plan.specs.calls.Answers.{started, handed, sheetFor, lengthWritten, writtenAnswer, writtenIn, bufferAfter, listPlaced, listPlacedAt}
+use Rattle.plan.specs.Demands.{ListRefused, RefusedAt, SheetFor, SheetForAt}
 use Rattle.plan.specs.theorems.Tables.{number-small}
 use Rattle.plan.specs.theorems.Reading.{reads-are, read-listed}
 use Rattle.plan.specs.theorems.Plan.{sites-placed}
@@ -231,9 +233,49 @@ no-way-found list = no-way-meets shortestSheet (omega arith)
 pub no-way-given : {number : ℕ} (side : Side) (list buffer : List ℕ) → number ≡ 3 → MeetsGiven side list buffer number buffer NoWay
 no-way-given side list = no-way-meets shortestSheetAt (omega arith)
 
+-- ---- what the number tells
+
+-- From the shortest length on, the buffer starts with the sheet that the demands name, which is the output of the program: at the side
+-- found,
+pub told-sheet : {way : Way} {list buffer after : List ℕ} {number : ℕ} → Told (atFound (By way) list) buffer number after
+    → shortestSheet ≤ number → SheetFor way list (take number after) × (take number after ≡ outputOf way list)
+told-sheet told long = (told .sheet long, told .same-output long)
+
+-- and at a given side;
+pub told-sheet-at : {way : Way} {side : Side} {list buffer after : List ℕ} {number : ℕ} → Told (atGiven (By way) side list) buffer number after
+    → shortestSheetAt ≤ number → SheetForAt way side list (take number after) × (take number after ≡ outputAt way side list)
+told-sheet-at told long = (told .sheet long, told .same-output long)
+
+-- below it, the buffer is as it came, and the number is the refusal, or 10 where the sheet is longer than the buffer.
+refused-told : {asked : Asked} {buffer after : List ℕ} {number : ℕ} → Told asked buffer number after → number < asked .shortest
+    → (asked .Refused number ⊎ ((number ≡ 10) × (asked .IsSheet (asked .output) × (length buffer < length (asked .output))))) × (after ≡ buffer)
+refused-told {asked} {buffer} told short = (by-reason (told .refused short .0), told .refused short .1)
+  where
+    by-reason : {n : ℕ} → CallRefused asked buffer n
+        → asked .Refused n ⊎ ((n ≡ 10) × (asked .IsSheet (asked .output) × (length buffer < length (asked .output))))
+    by-reason (is-refused reason) = inl reason
+    by-reason (short-buffer sheet longer) = inr (refl, (sheet, longer))
+
+pub told-refused : {way : Way} {list buffer after : List ℕ} {number : ℕ} → Told (atFound (By way) list) buffer number after
+    → number < shortestSheet
+    → (ListRefused list number ⊎ ((number ≡ 10) × (SheetFor way list (outputOf way list) × (length buffer < length (outputOf way list)))))
+    × (after ≡ buffer)
+told-refused = refused-told
+
+pub told-refused-at : {way : Way} {side : Side} {list buffer after : List ℕ} {number : ℕ}
+    → Told (atGiven (By way) side list) buffer number after → number < shortestSheetAt
+    → (RefusedAt way side list number
+    ⊎ ((number ≡ 10) × (SheetForAt way side list (outputAt way side list) × (length buffer < length (outputAt way side list)))))
+    × (after ≡ buffer)
+told-refused-at = refused-told
+
 -- ---- the numbers that stand for no way or no side
 
--- Numbers but 1 and 2 are refused with 3, whatever the list,
+-- 1 is the usual way, 2 is above the spot only.
+pub ways-given : (wayOf 1 ≡ By Usual) × (wayOf 2 ≡ By Above)
+ways-given = (refl, refl)
+
+-- Other numbers are refused with 3, whatever the list,
 pub no-way : (number : ℕ) → (number ≡ 1 → ⊥) → (number ≡ 2 → ⊥) → wayOf number ≡ NoWay
 no-way number not-usual not-above = rw (ne-eqb number 1 not-usual, ne-eqb number 2 not-above, wayOf)
 

@@ -161,9 +161,31 @@ rows =
     ∷ given Above [] Free (refusedAt 0 8)
     ∷ []
 
--- So many rows: one that is left out is missed.
+-- So many rows, and of these so many above the spot, at given sides, and with a side up to which labels do not meet: one that is left out
+-- is missed.
 pub rows-count : length rows ≡ 39
 rows-count = refl
+
+abbrev countOf : (Row → Bool) → List Row → ℕ
+countOf is [] = 0
+countOf is (row ∷ rows) = elim (is row) [ true ↦ suc (countOf is rows) | false ↦ countOf is rows ]
+
+abbrev isAbove : Way → Bool
+isAbove Usual = false
+isAbove Above = true
+
+abbrev isTold : {A : Type 0} → Option A → Bool
+isTold (some it) = true
+isTold none = false
+
+pub rows-above : countOf (λ row. isAbove (row .way)) rows ≡ 14
+rows-above = refl
+
+pub rows-given : countOf (λ row. isTold (row .at-side)) rows ≡ 19
+rows-given = refl
+
+pub rows-apart : countOf (λ row. isTold (row .apart-to)) rows ≡ 1
+rows-apart = refl
 
 -- ---- what entries lead to
 

@@ -19,18 +19,22 @@ use Rattle.placing.specs.deciding.Answer.{chosenAt}
 use Rattle.plan.specs.rules.Refusal.{Test, numberBy, Result, accepted, refused}
 use Rattle.plan.specs.declared.plan.Plan.{Plan}
 use Rattle.plan.specs.declared.plan.Planned.{Planned}
-use Rattle.plan.specs.rules.List.{Site, placesOf, listText, Reads, end}
-use Rattle.plan.specs.rules.Sheet.{sheetWith, sideOn, refusalLine}
-use Rattle.plan.specs.rules.Calls.{findingTests, choosingTests, cleared}
+use Rattle.plan.specs.rules.List.{Site, placesOf, listText, Reads, end, enterTests, wantedAt}
+use Rattle.plan.specs.rules.Sheet.{sheetWith, sideOn, refusalLine, carried}
+use Rattle.plan.specs.rules.Calls.{findingTests, choosingTests, sideTests, cornerTests, writeTests, cleared}
 use Rattle.plan.specs.deciding.Output.{outputOf, existsAt, outputAt}
 use Rattle.plan.specs.declared.plan.AskedSide.{AskedSide}
-use Rattle.plan.specs.calls.Plan.{placedWith, placedPlan, sitesIn}
-use Rattle.plan.specs.calls.Answers.{outcomeNumber, sideAskedNumber}
+use Rattle.plan.specs.declared.plan.AskedCorner.{AskedCorner}
+use Rattle.plan.specs.declared.plan.Written.{Written}
+use Rattle.plan.specs.calls.Plan.{unplacedPlan, placedWith, placedPlan, sitesIn}
+use Rattle.plan.specs.calls.Answers.{outcomeNumber, sideAskedNumber, cornerAskedNumber, writtenNumber, sheetFor}
 use Rattle.plan.specs.Demands.{Refuses, ChooseTold, FirstRefused, Accepts, ListRefused, at-line, no-sites, RightSheet, SheetFor, Answered, refusal-line, list-sheet}
+use Rattle.plan.specs.Demands.{EnterTold, SideTold, CornerTold, WriteTold, ReadTold, read-refused, read-all}
 use Rattle.plan.specs.Demands.{FindTold, ListTold, list-refused, list-placed, ListToldAt, refused-at, placed-at}
 use Rattle.plan.specs.Demands.{RefusedAt, out-of-range, refused-list, none-good, PlacedSheet, SheetForAt, AnsweredAt, refusal-at, sheet-at}
 use Rattle.plan.specs.theorems.Tables.{Tells, table-tells}
 use Rattle.plan.specs.theorems.Reading.{reads-unique, reads-are}
+use Rattle.plan.specs.theorems.Plan.{sites-unplaced}
 use Rattle.plan.specs.theorems.FirstLine.{first-refused-one, refused-not-read, refused-list-not-accepted}
 
 -- A list is refused with one number.
@@ -119,7 +123,10 @@ carried-again-at {way} for printed is = ap (outputAt way printed) (sym (for .giv
 pub given-again-at : {way : Way} {side : Side} {text sheet : List ℕ} → SheetForAt way side text sheet → outputAt way side text ≡ sheet
 given-again-at {side = side} for = carried-again-at for side (for .placed .side-on)
 
--- and it is that of the sites.
+-- and it is that of the sites, on every right sheet too.
+pub right-carries : {way : Way} {sites : List Site} {sheet : List ℕ} → RightSheet way sites sheet → carried sheet ≡ listText sites
+right-carries right = right .list
+
 pub carried-sites : {way : Way} {side : Side} {text sheet : List ℕ} (for : SheetForAt way side text sheet) → text ≡ listText (for .sites)
 carried-sites for = sym (for .gives-back) ∙ for .placed .list
 
@@ -138,10 +145,10 @@ choose-tells {plan} {way} {side} {table} told = (
 
 -- Another call: the number of its table, and where that is a refusal everything as it came.
 pub told-tells : {Given : Type 0} {given : ℕ} {before after : Given} (tests : List Test) → Refuses given (numberBy tests) before after
-    → Tells tests given × (1 ≤ numberBy tests → after ≡ before)
+    → Tells tests given × (1 ≤ given → after ≡ before)
 told-tells tests told = (
   subst (Tells tests) (sym (told .number-is)) (table-tells tests),
-  λ some-number. told .as-it-came (λ zero. omega (arith, told .number-is, some-number, zero)),
+  λ some-number. told .as-it-came (λ zero. omega arith),
 )
 
 -- Reading a list and placing it, at a given side too, is told in one way: one number and one plan.
@@ -169,12 +176,44 @@ list-told-at-one {way} {side} (placed-at sites corners accepts chosen zero is) (
       ∙ sym so,
 )
 
--- Finding: the number of its table, and the table as it came where that is a refusal.
+-- So finding, the table being as it came; entering, the plan; writing, the buffer.
 pub find-tells : (plan : Plan) (table : List ℕ) (r : AskedSide) (after : List ℕ) → FindTold plan table r after
     → Tells (findingTests (plan .count) (length table)) (sideAskedNumber r) × (1 ≤ sideAskedNumber r → after ≡ table)
-find-tells plan table r after told =
-    let both = told-tells (findingTests (plan .count) (length table)) told in
-    (both .0, λ some-number. both .1 (omega (arith, told .number-is, some-number)))
+find-tells plan table r after = told-tells (findingTests (plan .count) (length table))
+
+pub enter-tells : (plan : Plan) (name : List ℕ) (x y : ℕ) (r : Planned) → EnterTold plan name x y r
+    → Tells (enterTests (sitesIn plan) (wantedAt name x y)) (outcomeNumber (r .outcome)) × (1 ≤ outcomeNumber (r .outcome) → r .plan ≡ plan)
+enter-tells plan name x y r = told-tells (enterTests (sitesIn plan) (wantedAt name x y))
+
+pub write-tells : (plan : Plan) (buffer : List ℕ) (r : Written) (after : List ℕ) → WriteTold plan buffer r after
+    → Tells (writeTests (plan .placed) (sheetFor plan) buffer) (writtenNumber r) × (1 ≤ writtenNumber r → after ≡ buffer)
+write-tells plan buffer r after = told-tells (writeTests (plan .placed) (sheetFor plan) buffer)
+
+-- Asking the side or a corner: the number of its table.
+pub side-tells : (plan : Plan) (r : AskedSide) → SideTold plan r → Tells (sideTests (plan .placed)) (sideAskedNumber r)
+side-tells plan r told = subst (Tells (sideTests (plan .placed))) (sym told) (table-tells (sideTests (plan .placed)))
+
+pub corner-tells : (plan : Plan) (i : ℕ) (r : AskedCorner) → CornerTold plan i r
+    → Tells (cornerTests (plan .placed) (plan .count) i) (cornerAskedNumber r)
+corner-tells plan i r told =
+    subst (Tells (cornerTests (plan .placed) (plan .count) i)) (sym told) (table-tells (cornerTests (plan .placed) (plan .count) i))
+
+-- Reading is told in one way: one number and one plan;
+pub read-told-one : {text : List ℕ} {r s : Planned} → ReadTold text r → ReadTold text s
+    → (outcomeNumber (r .outcome) ≡ outcomeNumber (s .outcome)) × (r .plan ≡ s .plan)
+read-told-one (read-refused f is) (read-refused g so) = (first-refused-one f g .1, is ∙ sym so)
+read-told-one (read-refused f is) (read-all all zero) = absurd (refused-not-read f (reads-are (all .read)))
+read-told-one (read-all all zero) (read-refused g so) = absurd (refused-not-read g (reads-are (all .read)))
+read-told-one (read-all all zero) (read-all also none) =
+    let both : accepted (all .sites) ≡ accepted (also .sites) = reads-unique (all .read) (also .read) in
+    let same : all .sites ≡ also .sites = cc in
+    (zero ∙ sym none, all .plan-is ∙ ap unplacedPlan same ∙ sym (also .plan-is))
+
+-- and the sites of an accepted reading are all of the text.
+pub read-told-whole : {text : List ℕ} {r : Planned} → ReadTold text r → outcomeNumber (r .outcome) ≡ 0 → text ≡ listText (sitesIn (r .plan))
+read-told-whole (read-refused f is) zero = absurd (omega (arith, f .some-number))
+read-told-whole (read-all all none) zero =
+    sym (all .every-line) ∙ ap listText (sym (ap sitesIn (all .plan-is) ∙ sites-unplaced (all .sites)))
 
 -- Choosing leaves the table cleared with 12 and where it is accepted, and as it came with every other number.
 pub choose-leaves : {plan : Plan} {way : Way} {side : Side} {table : List ℕ} {r : Planned} {after : List ℕ}

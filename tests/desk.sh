@@ -393,6 +393,11 @@ fresh "$made/example.list"
 printf 'side\t8\nA\t10\t10\t1\nB\t10\t14\t1\nC\t10\t20\t1\n' >"$desk/should/level.sheet"
 echo 'level.sheet: side 8, labels above, sites 3' >"$desk/said"
 files above 0 level.list above
+# With four corners A is at 3 there.
+fresh "$made/example.list"
+printf 'side\t5\nA\t10\t10\t1\nB\t10\t14\t1\nC\t10\t20\t1\n' >"$desk/should/level.sheet"
+echo 'level.sheet: side 5 as given, labels above, sites 3' >"$desk/said"
+files 'above, at side 5' 0 level.list above 5
 fresh "$made/row.list"
 printf 'side\t7\nA\t0\t0\t2\nB\t3\t0\t1\nC\t10\t0\t1\n' >"$desk/should/level.sheet"
 echo 'level.sheet: side 7 as given, labels above, sites 3' >"$desk/said"
@@ -422,6 +427,8 @@ refusal_above() {
     files "refused $number above${1+ at side $1}" 1 level.list above "$@"
 }
 for side in 9 free 0 20001 04; do refusal_above "$made/example.list" "$side"; done
+# With four corners the unit square has a sheet at every side.
+for side in 3 20000 free; do refusal_above examples/square.list "$side"; done
 refusal_above "$made/bad.list"
 refusal_above "$made/bad.list" 4
 refusal_above "$made/nothing"
@@ -433,6 +440,13 @@ files 'a sheet with a label below its spot' 1 level.list above
 fresh "$made/example.list"
 complains 'the sheet of level.list has a label below its spot'
 files 'a sheet with a label below its spot, at side 6' 1 level.list above 6
+for corners in '4 1 1' '1 3 1' '1 4 1' '1 1 3' '1 1 4' '2 2 4'; do
+    printf '#!/bin/sh\nprintf "side\\t8\\nA\\t10\\t10\\t%s\\nB\\t10\\t14\\t%s\\nC\\t10\\t20\\t%s\\n"\n' $corners | written below
+    with=$desk/bin/below
+    fresh "$made/example.list"
+    complains 'the sheet of level.list has a label below its spot'
+    files "a sheet above with corners $corners" 1 level.list above
+done
 written says-its-usage <<'END'
 #!/bin/sh
 echo 'usage: place [SIDE] < LIST > SHEET' >&2

@@ -71,14 +71,15 @@ size_t lemoncanyon_sheet(const uint8_t *list, size_t list_length, uint32_t way, 
 /* Places the sites of a list, in the given way, at a given side, in half units from 1 to 20,000, or LEMONCANYON_FREE, and writes its
    sheet.
 
-   LEMONCANYON_SHORTEST_AT or more: the length of the sheet, which stands in the buffer as above and prints the given side. Of this sheet
+   LEMONCANYON_SHORTEST_AT or more: the length of the sheet, which stands in the buffer as with lemoncanyon_sheet and prints the given side. Of this sheet
    holds: no two labels meet; no corner is crowded, or, with LEMONCANYON_ABOVE, corners are 1 and 2 alone; and of all such choices at this
    side the corners are the first in list order. The list that it carries gives the same sheet again in the same way at the same side; the
    sheet does not say which way that was. What is promised besides of the side found (that it is the greatest; in the usual way, that
    nobody does better than twice the printed number) holds only where the given side is the one that lemoncanyon_sheet prints for this
    list in the same way; the sheet is then the same. A side found in the other way is a given one.
 
-   Below LEMONCANYON_SHORTEST_AT: the number of the refusal. Every byte of the buffer is as it came. The numbers are those above, and
+   Below LEMONCANYON_SHORTEST_AT: the number of the refusal. Every byte of the buffer is as it came. The numbers are those of
+   lemoncanyon_sheet, and
      3  also where the side is neither LEMONCANYON_FREE nor from 1 to 20,000: this is tested with the way, before the list is read
     12  no good choice exists at the given side: tested after 8 and before 10
    At every side up to the one that lemoncanyon_sheet prints in the same way a good choice exists, and at no greater one. */

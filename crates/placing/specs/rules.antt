@@ -1,4 +1,5 @@
--- The rules of document 01 for placing labels: what a reader is asked to believe, definitions alone, in the document's order.
+-- The rules for placing labels: what a reader is asked to believe, definitions alone, in document 01's order, with what L1 and L2 of
+-- document 02 add to its pages.
 pub mod Units
 pub mod Corner
 pub mod Label

@@ -12,7 +12,7 @@ pub mod CommonPoint
 pub mod Supremum
 -- Of a site's uncrowded corners at most two have a label that meets another.
 pub mod AtMostTwo
--- Above twice the answer's side every choice has two labels that meet.
+-- At sides greater than twice that of the answer by the usual way, every choice has two labels that meet.
 pub mod FactorTwo
 -- At sides greater than the one found above the spot, no choice of corners 1 and 2 keeps its labels apart.
 pub mod ExactSide

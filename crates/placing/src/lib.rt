@@ -1,4 +1,4 @@
-// Square labels for sites: what document 01 rules of corners, meeting, crowding and sides. Nothing here knows names or text.
+// Square labels for sites: what the documents rule of corners, meeting, crowding, sides and ways. Nothing here knows names or text.
 pub mod choice;
 pub mod corner;
 pub mod crowding;

@@ -213,7 +213,7 @@ abbrev pub SheetWritten : Way → List Site → Side → Written → List ℕ �
 SheetWritten way sites side (Bytes n) buffer = PlacedSheet way sites side (take n buffer)
 SheetWritten way sites side (NotWritten why) buffer = Unit {0}
 
--- ---- from a list to its output, by a way of placing: all three
+-- ---- from a list to its output, by a way of placing: all three, with what stands for the third above the spot
 
 -- A sheet for a list that is accepted, which it carries byte for byte.
 pub record SheetFor (way : Way) (text sheet : List ℕ) : Type 0 where

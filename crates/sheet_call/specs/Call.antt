@@ -9,7 +9,6 @@ use lib.Dec.{eqb}
 use lib.ListN.{length, take}
 use Rattle.placing.specs.declared.units.Side.{Side}
 use Rattle.placing.specs.declared.units.Side.the-variants.{Number, Free}
-use Rattle.placing.specs.declared.way.Way.{Way}
 use Rattle.placing.specs.declared.way.Way.the-variants.{Usual, Above}
 use Rattle.plan.specs.declared.refusal.Refusal.{Refusal}
 use Rattle.plan.specs.declared.refusal.Refusal.the-variants.{BadNumber}

@@ -276,8 +276,11 @@ pub ways-given : (wayOf 1 ≡ By Usual) × (wayOf 2 ≡ By Above)
 ways-given = (refl, refl)
 
 -- Other numbers are refused with 3, whatever the list,
-pub no-way : (number : ℕ) → (number ≡ 1 → ⊥) → (number ≡ 2 → ⊥) → wayOf number ≡ NoWay
-no-way number not-usual not-above = rw (ne-eqb number 1 not-usual, ne-eqb number 2 not-above, wayOf)
+pub no-way : (number : ℕ) (list buffer : List ℕ) → (number ≡ 1 → ⊥) → (number ≡ 2 → ⊥)
+    → (called (wayOf number) list buffer ≡ refusal BadNumber buffer)
+    × ((side : Side) → calledAt (wayOf number) side list buffer ≡ refusal BadNumber buffer)
+no-way number list buffer not-usual not-above =
+    rw (ne-eqb number 1 not-usual, ne-eqb number 2 not-above, wayOf) (refl, λ side. refl)
 
 -- and so is a side outside the range, whatever the way.
 side-refused : (way : GivenWay) (side : Side) (list buffer : List ℕ) → isSide side ≡ false

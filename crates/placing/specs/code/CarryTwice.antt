@@ -16,6 +16,7 @@ use Rattle.placing.specs.rules.Choice.{cornerAt}
 use Rattle.placing.specs.search.Problem.{Problem}
 use Rattle.placing.specs.search.Rows.{rowOf, open-corner}
 use Rattle.placing.specs.search.State.{TwoOpen, Only, Every, CarriedTo, Carried, Stuck}
+use Rattle.placing.specs.search.Trial.{zero-before, two-still}
 use Rattle.placing.specs.code.Labels.{LookedAt, equal, low, labels}
 use Rattle.placing.specs.code.Asks.{MayCarry, MayCarryOut}
 use Rattle.placing.specs.code.Steps.{Lone, AllSettled, CarriedOut}
@@ -64,27 +65,11 @@ module _ {P : Problem} {One Two : ℕ → Type 0} {opens decided opens₁ decide
                 alone = λ e still. first .decides-alone e free earlier (second .closes e still) ∙ sym same;
               }
 
-      free-before : cornerAt decided₂ j ≡ 0 → cornerAt decided₁ j ≡ 0
-      free-before free = from (ℕ-discrete (cornerAt decided₁ j) 0)
-        where
-          from : Dec (cornerAt decided₁ j ≡ 0) → cornerAt decided₁ j ≡ 0
-          from (yes zero) = zero
-          from (no taken) = absurd (taken (sym (second .stays-decided taken) ∙ free))
-
-      -- Two that were open after the first round are open after the second, unless it has closed one of them.
-      two-still : TwoOpen opens₁ j → cornerAt decided₂ j ≡ 0 → TwoOpen opens₂ j
-      two-still two free = from (ℕ-discrete (rowOf opens₂ j (two .one)) 1) (ℕ-discrete (rowOf opens₂ j (two .two)) 1)
-        where
-          from : Dec (rowOf opens₂ j (two .one) ≡ 1) → Dec (rowOf opens₂ j (two .two) ≡ 1) → TwoOpen opens₂ j
-          from (yes one-open) (yes two-open) =
-              record { one = two .one; two = two .two; differ = two .differ; one-open = one-open; two-open = two-open }
-          from (yes one-open) (no shut) = second .two-left (two .two) free (two .two-open) shut
-          from (no shut) other = second .two-left (two .one) free (two .one-open) shut
-
       two-left : (e : ℕ) → cornerAt decided₂ j ≡ 0 → rowOf opens j e ≡ 1 → rowOf opens₂ j e ≢ 1 → Dec (rowOf opens₁ j e ≡ 1)
           → TwoOpen opens₂ j
       two-left e free was shut (yes still) = second .two-left e free still shut
-      two-left e free was shut (no closed) = two-still (first .two-left e (free-before free) was closed) free
+      two-left e free was shut (no closed) =
+          two-still second free (first .two-left e (zero-before (second .stays-decided) free) was closed)
 
   -- At all sites.
   all-twice : Carried P One opens decided k opens₁ decided₁ → Carried P Two opens₁ decided₁ k opens₂ decided₂

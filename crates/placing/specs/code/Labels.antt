@@ -14,7 +14,7 @@ use Rattle.placing.specs.declared.way.Way.{Way}
 use Rattle.placing.specs.declared.way.Way.the-variants.{Usual, Above}
 use Rattle.placing.specs.rules.Corner.{Corner}
 use Rattle.placing.specs.rules.Label.{Meet}
-use Rattle.placing.specs.rules.Choice.{cornerAt, Allowed, Good}
+use Rattle.placing.specs.rules.Choice.{cornerAt, Upper, Allowed, Good}
 use Rattle.placing.specs.deciding.Tests.{not-crowded, is-upper}
 use Rattle.placing.specs.theorems.Label.{meet-symmetric}
 use Rattle.placing.specs.theorems.Choice.{meeting-of}
@@ -101,7 +101,7 @@ solution-good way h n xs ys cs solution =
 -- The corners of other sites that are looked at when corner c of a site is decided: by the usual way c itself, above the spot 1 and 2.
 pub data LookedAt : Way → (c e : ℕ) → Type 0 where
   equal : {c e : ℕ} → e ≡ c → LookedAt Usual c e
-  low : {c e : ℕ} → e ≤ 2 → LookedAt Above c e
+  low : {c e : ℕ} → Upper e → LookedAt Above c e
 
 -- The allowed labels that meet it are at these: for the code's speed, uncrowded labels meet at equal corners only.
 pub met-looked : (way : Way) (h n : ℕ) (xs ys : List ℕ) {k j c e : ℕ} → k < n → j < n → j ≢ k

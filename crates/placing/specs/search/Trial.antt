@@ -20,10 +20,30 @@ use Rattle.placing.specs.search.State.{
   Follows,
   Refused,
   Took,
+  CarriedTo,
   Carried,
   Stuck,
   Later,
 }
+
+-- What stays where it is not 0, and is 0 afterwards, was 0.
+pub zero-before : {before after : ℕ} → (before ≢ 0 → after ≡ before) → after ≡ 0 → before ≡ 0
+zero-before {before} stays zero = from (ℕ-discrete before 0)
+  where
+    from : Dec (before ≡ 0) → before ≡ 0
+    from (yes is) = is
+    from (no some) = absurd (some (sym (stays some) ∙ zero))
+
+-- Of a site that is still undecided two corners that were open are so after a decision is carried to it, or two others.
+pub two-still : {P : Problem} {Looked : ℕ → Type 0} {opens decided opens′ decided′ : List ℕ} {k j : ℕ}
+    → CarriedTo P Looked opens decided k j opens′ decided′ → cornerAt decided′ j ≡ 0 → TwoOpen opens j → TwoOpen opens′ j
+two-still {opens′ = opens′} {j = j} to free two = from (ℕ-discrete (rowOf opens′ j (two .one)) 1) (ℕ-discrete (rowOf opens′ j (two .two)) 1)
+  where
+    from : Dec (rowOf opens′ j (two .one) ≡ 1) → Dec (rowOf opens′ j (two .two) ≡ 1) → TwoOpen opens′ j
+    from (yes one-open) (yes two-open) =
+        record { one = two .one; two = two .two; differ = two .differ; one-open = one-open; two-open = two-open }
+    from (yes one-open) (no shut) = to .two-left (two .two) free (two .two-open) shut
+    from (no shut) other = to .two-left (two .one) free (two .one-open) shut
 
 -- A corner's number is not 0.
 corner-not-zero : {c : ℕ} → Corner c → c ≢ 0
@@ -181,11 +201,7 @@ module _ {P : Problem} {opens decided : List ℕ} {Done : ℕ → Type 0} {k : �
 
     -- A site that is undecided afterwards was undecided.
     was-undecided : (j : ℕ) → j < P .n → cornerAt decided′ j ≡ 0 → cornerAt decided j ≡ 0
-    was-undecided j below u = from (ℕ-discrete (cornerAt decided j) 0)
-      where
-        from : Dec (cornerAt decided j ≡ 0) → cornerAt decided j ≡ 0
-        from (yes p) = p
-        from (no d) = absurd (d (sym (carried-stays j below d) ∙ u))
+    was-undecided j below = zero-before (carried-stays j below)
 
     -- A solution that follows the state follows it after the decision is carried out.
     carried-follows : (cs : List ℕ) → Solution P cs → Follows P opens cs → Follows P opens′ cs
@@ -250,19 +266,11 @@ module _ {P : Problem} {opens decided : List ℕ} {Done : ℕ → Type 0} {k : �
             })
             (carried .others j below (undecided-other j u) .keeps e o)
 
-        two-open : (j : ℕ) → j < P .n → cornerAt decided′ j ≡ 0 → cornerAt decided j ≡ 0 → (two : TwoOpen opens j)
-            → Dec (rowOf opens′ j (two .one) ≡ 1) → Dec (rowOf opens′ j (two .two) ≡ 1) → TwoOpen opens′ j
-        two-open j below u w two (yes p) (yes q) =
-            record { one = two .one; two = two .two; differ = two .differ; one-open = p; two-open = q }
-        two-open j below u w two (no p) q = carried .others j below (undecided-other j w) .two-left (two .one) u (two .one-open) p
-        two-open j below u w two (yes p) (no q) = carried .others j below (undecided-other j w) .two-left (two .two) u (two .two-open) q
-
         two-left : (j e : ℕ) → j < P .n → cornerAt decided′ j ≡ 0 → cornerAt decided j ≡ 0 → P .Candidate j e → rowOf opens′ j e ≢ 1
             → Dec (rowOf opens j e ≡ 1) → TwoOpen opens′ j
         two-left j e below u w candidate shut (yes o) = carried .others j below (undecided-other j w) .two-left e u o shut
         two-left j e below u w candidate shut (no n) =
-            let two = underway .two-left j e below w candidate n in
-            two-open j below u w two (ℕ-discrete (rowOf opens′ j (two .one)) 1) (ℕ-discrete (rowOf opens′ j (two .two)) 1)
+            two-still (carried .others j below (undecided-other j w)) u (underway .two-left j e below w candidate n)
 
         done-decided : (j : ℕ) → j < P .n → Done′ j → Dec (j ≡ k) → cornerAt decided j ≢ 0
         done-decided j below done (yes p) = rw p is-decided

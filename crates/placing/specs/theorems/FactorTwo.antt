@@ -1,5 +1,5 @@
--- Document 01, "What demand 3 counts": above twice the answer's side every choice of corners has two labels that meet, at whole
--- sides and at fractions.
+-- Document 01, "What demand 3 counts": at sides greater than twice that of the answer by the usual way, whole or fraction, every choice of
+-- corners has two labels that meet.
 -- Assumes nothing.
 use mathlib.Core.List.{List}
 use mathlib.Core.Logic.{Ne·symm}
@@ -49,7 +49,7 @@ module _ (h p q : ℕ) (twice : 2 * h * q < p) where
         apart = λ pair. none-meet (meeting-larger some-q wide pair);
       }
 
--- If h + 1 has no good choice, then at every side above twice h every choice has two labels that meet.
+-- If h + 1 has no good choice by the usual way, then at every side greater than twice h every choice has two labels that meet.
 pub twice-the-side : (h : ℕ) (ps : List Place) → 1 ≤ h → NoneGood Usual (suc h) ps
     → (p q : ℕ) → 1 ≤ q → 2 * h * q < p → (cs : List ℕ) → Corners (length ps) cs → MeetingPair p q ps cs
 twice-the-side h ps some-h none-good p q some-q twice cs corners = go (decided (meeting-decides p q ps cs))

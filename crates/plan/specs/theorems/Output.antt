@@ -1,5 +1,5 @@
--- A sheet of sites by the rules is right, and the output for a text meets the three demands, is at most 5,531 bytes long and lies
--- within the array that it is put into.
+-- A sheet of sites by the rules is right, and the output for a text meets the three demands, with what stands for the third above the spot,
+-- is at most 5,531 bytes long and lies within the array that it is put into.
 -- Assumes nothing.
 use mathlib.Core.Path.{_≡_, refl, sym, ap, _∙_, subst}
 use mathlib.Core.Bool.{Bool, true, false, not, true≢false}
@@ -62,7 +62,7 @@ use Rattle.plan.specs.theorems.Sheet.{chosen-lined, answer-listed, sheet
 use Rattle.plan.specs.calls.Lengths.{mostDigits, longestSheet, longestRefusalLine}
 use Rattle.plan.specs.theorems.ReadOff.{sheet-carries, sheet-again, sheet-again-at, sheet-apart, guaranteed, side-on-sheet, number-read, spots-on-sheet}
 
--- Demands 2 and 3 of the sheet of some sites.
+-- Demands 2 and 3 of the sheet of some sites, with what stands for the third above the spot.
 pub sheet-right : (way : Way) (sites : List Site) → Listed sites → 1 ≤ length sites → RightSheet way sites (sheetOf way sites)
 unfolding sheetOf
 sheet-right way sites listed some-sites =

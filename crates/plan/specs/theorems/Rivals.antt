@@ -120,6 +120,13 @@ pub placed-free-common : {way : Way} {sites : List Site} {side : Side} {sheet : 
     → CommonPoint p q (spotsOn sheet) (placed .corners) → ⊥
 placed-free-common listed placed = free-common (placed .free-apart) (rw (placed .spots) (listed .places-distinct))
 
+-- Nor does one of its labels cover the spot of another line, at whatever side.
+pub free-covers-no-spot : {sheet corners : List ℕ} → FreeApart sheet corners → sideOn sheet ≡ some Free → (p q i j : ℕ)
+    → i < length (spotsOn sheet) → j < length (spotsOn sheet) → i ≢ j
+    → Covers p q (siteAt (spotsOn sheet) i) (cornerAt corners i) (pointOf (siteAt (spotsOn sheet) j)) → ⊥
+free-covers-no-spot apart printed p q i j listed other differ covers =
+    apart .none-meet printed p q (meeting-of i j listed other differ (covered-meets _ covers _))
+
 -- Rivals of a sheet at whatever side, where it prints the side found for its spots.
 pub placed-common : {way : Way} {sites : List Site} {side : Side} {sheet : List ℕ} → Listed sites → PlacedSheet way sites side sheet
     → PrintsFound way sheet → {h : ℕ} {cs : List ℕ} → IsAnswer way (placesOf sites) (numbered h cs) → (p q : ℕ) → 1 ≤ q
@@ -137,7 +144,7 @@ pub placed-on-spots : {way : Way} {sites : List Site} {side : Side} {sheet : Lis
     → IsChosen way (spotsOn sheet) (record { side = side; corners = placed .corners })
 placed-on-spots placed = rw (placed .spots) (placed .is-chosen)
 
--- So no label on it covers the spot of another line.
+-- So no label on it covers the spot of another line, at the side that it was placed at.
 pub covers-no-spot : {way : Way} {sites : List Site} {side : Side} {sheet : List ℕ} (placed : PlacedSheet way sites side sheet) (i j : ℕ)
     → i < length (spotsOn sheet) → j < length (spotsOn sheet) → i ≢ j
     → Covers (judgedAt side) 1 (siteAt (spotsOn sheet) i) (cornerAt (placed .corners) i) (pointOf (siteAt (spotsOn sheet) j)) → ⊥

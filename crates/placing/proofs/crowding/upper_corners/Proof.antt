@@ -1,6 +1,5 @@
 -- `crowding::upper_corners` meets its contract. The loop's invariant: the reaches before `at` are written.
 -- Assumes nothing.
-use mathlib.Core.Path.{_≡_}
 use native.Mathlib.Omega.{arith}
 use borrow.Author.Needs.{needs}
 use Prim.Native.Nat.{_*_, _≤_, _-_}

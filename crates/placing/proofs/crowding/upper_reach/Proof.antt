@@ -2,7 +2,6 @@
 -- Assumes nothing.
 use mathlib.Core.Path.{refl}
 use native.Mathlib.Omega.{arith}
-use borrow.Author.Needs.{needs}
 use Rattle.placing.proofs.crowding.upper_reach.Statement.{statement}
 use Rattle.placing.proofs.crowding.upper_reach.Tie as tie
 

@@ -2,7 +2,8 @@
 -- Assumes nothing.
 use mathlib.Core.Path.{_≡_, refl, sym, ap, _∙_, subst}
 use mathlib.Core.List.{List, [], _∷_}
-use Prim.Native.Nat.{ℕ, zero, suc, _≤_}
+use mathlib.Core.Logic.{_⊎_, inl, inr}
+use Prim.Native.Nat.{ℕ, zero, suc, _+_, _<_, _≤_}
 use native.Mathlib.Omega.{arith}
 use lib.ListN.{length, getD, take, drop, length-take}
 use lib.Seq.{take-all, take-at}
@@ -19,7 +20,8 @@ use Rattle.place.specs.declared.asked.At.the-variants.{Found, Given}
 use Rattle.place.specs.declared.answer.Reading.{Reading}
 use Rattle.place.specs.declared.answer.Answer.{Answer}
 use Rattle.place.specs.declared.answer.Answer.the-variants.{Output, Unread}
-use Rattle.place.specs.Input.{Finished, Sound}
+use Rattle.place.specs.declared.answer.Step.the-variants.{Failed}
+use Rattle.place.specs.Input.{roomLeft, bytesOf, InputReads, none-yet, once-more, Finished, Sound}
 use Rattle.place.specs.Reply.{outputBy, AnsweredBy, OutputFor, Replied, IsRefused, Writable}
 
 -- What `output` leaves for the bytes read is the output for every input that starts with them.
@@ -94,6 +96,34 @@ module _ {way : Way} {at : At} {start room : List ℕ} {reading : Reading} {n : 
   pub replied-given : {side : Side} → at ≡ Given side → AnsweredAt way side input (take n buffer)
   replied-given is = rw is at (replied .output-for .answered input first)
 
-  -- Reading was over, and no read failed.
-  pub replied-read : Finished reading room × Sound (reading .last)
-  replied-read = (replied .input-read .finished, replied .sound)
+  -- Reads brought it, one after another, until reading was over, and none failed.
+  pub replied-read : InputReads start reading room × (Finished reading room × Sound (reading .last))
+  replied-read = (replied .input-read .reads, (replied .input-read .finished, replied .sound))
+
+-- Where there is no output, reading came to a read that failed.
+pub replied-unread : (way : Way) (at : At) {start room : List ℕ} {reading : Reading} (buffer : List ℕ)
+    → Replied way at start room (Unread reading) buffer → InputReads start reading room × (reading .last ≡ Failed)
+replied-unread way at buffer replied = (replied .input-read .reads, replied .failed)
+
+-- Reading before its last read: bytes might still come, those that had come stay, and those of the last read are counted.
+pub record BeforeLast (start : List ℕ) (reading : Reading) (room : List ℕ) : Type 0 where
+  pub before : Reading
+  pub room-before : List ℕ
+  pub reads : InputReads start before room-before
+  pub some-left : 0 < roomLeft before room-before
+  pub stays : take (before .at) room ≡ take (before .at) room-before
+  pub counted : reading .at ≡ before .at + bytesOf (reading .last)
+
+-- Every reading is at its start, or has a last read.
+pub last-read : {start room : List ℕ} {reading : Reading} → InputReads start reading room
+    → ((room ≡ start) × (reading .at ≡ 0)) ⊎ BeforeLast start reading room
+last-read none-yet = inl (refl, refl)
+last-read (once-more {r = r} {room = before} reads left behind) =
+    inr (record {
+      before = r;
+      room-before = before;
+      reads = reads;
+      some-left = left;
+      stays = behind .kept;
+      counted = behind .counted;
+    })

@@ -232,6 +232,15 @@ another size|side\t06\nA\t10\t10\t3\nB\t10\t14\t1\nC\t10\t20\t1\n
 another corner|side\t6\nA\t10\t10\t3\nB\t10\t14\t5\nC\t10\t20\t1\n
 an empty corner|side\t6\nA\t10\t10\t3\nB\t10\t14\t\nC\t10\t20\t1\n
 END
+# A long sheet with another name in one line
+BYTES=6000
+for line in 2 60 120 180 241; do
+    fresh tests/longest.list
+    awk -v line="$line" 'NR == line { sub(/^./, "_") } { print }' tests/longest.sheet >"$desk/sheet"
+    SHEET=$desk/sheet
+    complains 'the sheet of level.list is not whole'
+    files "another name in line $line of 241" 1 level.list
+done
 SHEET=$PWD/$made/example.sheet
 
 # A program or a script that is ended, and no program
@@ -428,7 +437,7 @@ refusal_above() {
 }
 for side in 9 free 0 20001 04; do refusal_above "$made/example.list" "$side"; done
 # With four corners the unit square has a sheet at every side.
-for side in 3 20000 free; do refusal_above examples/square.list "$side"; done
+for side in 3 10 100 1000 20000 free; do refusal_above examples/square.list "$side"; done
 refusal_above "$made/bad.list"
 refusal_above "$made/bad.list" 4
 refusal_above "$made/nothing"
@@ -577,9 +586,15 @@ done >"$desk/saved"
 LC_ALL=C awk 'BEGIN { FS = OFS = "\t" } { $1 = toupper($1); print }' "$desk/saved" >"$made/should"
 clean <"$desk/saved" >"$made/out" 2>"$made/err"
 judge 'clean-list, each byte within a field' "$made/should" "$made/nothing"
-sites 241 >"$made/list"
+for n in 241 500; do
+    sites "$n" >"$made/list"
+    clean <"$made/list" >"$made/out" 2>"$made/err"
+    judge "clean-list, $n sites" "$made/list" "$made/nothing"
+done
+# Names and numbers of every length up to 40 stay.
+seq 1 40 | awk '{ name = name "N"; number = number "7"; printf "%s\t1\t1\nA\t%s\t1\nA\t1\t%s\n", name, number, number }' >"$made/list"
 clean <"$made/list" >"$made/out" 2>"$made/err"
-judge 'clean-list, 241 sites' "$made/list" "$made/nothing"
+judge 'clean-list, each length of a field' "$made/list" "$made/nothing"
 
 clean "$made/example.list" <"$made/example.list" >"$made/out" 2>"$made/err"
 came=$?

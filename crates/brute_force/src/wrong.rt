@@ -1,5 +1,5 @@
-// Answers that are wrong for document 01's list A, B, C, whose side is 6 with corners 3, 1, 1, and above the spot 8 with 1, 1, 1. Judging
-// the product by them is meant to tell of a difference each, so that the stored output changes when the comparing breaks, or when a way
+// Answers that are wrong for document 01's list A, B, C, whose side is 6 with corners 3, 1, 1, and above the spot 8 with 1, 1, 1, and for a
+// column of seven sites. Judging the product by them is meant to tell of a difference each, so that the stored output changes when the comparing breaks, or when a way
 // is taken for the other.
 use crate::counts::Counts;
 use crate::counts::Tally;
@@ -25,7 +25,22 @@ fn column() -> Sites
     }
 }
 
-// An answer for it.
+// The same with four sites more.
+fn seven() -> Sites
+    ensures { λ r. ⌜ r .n ≤ 7 ⌝ }
+{
+    let mut places = column().places;
+    places[3] = Place { x: 10, y: 30 };
+    places[4] = Place { x: 10, y: 40 };
+    places[5] = Place { x: 10, y: 50 };
+    places[6] = Place { x: 10, y: 60 };
+    Sites {
+        n: 7,
+        places: places,
+    }
+}
+
+// An answer for A, B, C.
 fn answer(side: u64, a: u8, b: u8, c: u8) -> Answer
     ensures { λ r. ⌜ r .side ≡ side ⌝ }
 {
@@ -75,5 +90,6 @@ pub fn print_wrong() {
     );
     two.usual = usual;
     two.above = above;
-    print_tally(two);
+    let last = judged(two, seven(), answer(1, 1, 1, 1), answer(1, 1, 1, 1));
+    print_tally(last);
 }

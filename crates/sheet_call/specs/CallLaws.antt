@@ -13,7 +13,7 @@ use lib.Dec.{leb, ltb}
 use lib.ListN.{length, take, drop}
 use lib.Seq.{take-append-seam}
 use Rattle.placing.specs.declared.units.Side.{Side}
-use Rattle.placing.specs.declared.units.Side.the-variants.{Number}
+use Rattle.placing.specs.declared.units.Side.the-variants.{Number, Free}
 use Rattle.placing.specs.declared.way.Way.{Way}
 use Rattle.placing.specs.declared.way.Way.the-variants.{Usual, Above}
 use Rattle.placing.specs.rules.Units.{greatestSide}
@@ -275,7 +275,12 @@ told-refused-at = refused-told
 pub ways-given : (wayOf 1 ≡ By Usual) × (wayOf 2 ≡ By Above)
 ways-given = (refl, refl)
 
--- Other numbers are refused with 3, whatever the list,
+-- The greatest number of 32 bits is free, and every other is so many half units.
+pub sides-given : (sideOf 4294967295 ≡ Free)
+    × ((number : ℕ) → (number ≡ 4294967295 → ⊥) → sideOf number ≡ Number (record { 0 = number }))
+sides-given = (refl, λ number not-free. rw (ne-eqb number freeNumber not-free, sideOf))
+
+-- Other numbers are no way and are refused with 3, whatever the list,
 pub no-way : (number : ℕ) (list buffer : List ℕ) → (number ≡ 1 → ⊥) → (number ≡ 2 → ⊥)
     → (called (wayOf number) list buffer ≡ refusal BadNumber buffer)
     × ((side : Side) → calledAt (wayOf number) side list buffer ≡ refusal BadNumber buffer)

@@ -4,3 +4,4 @@ pub mod InputLaws
 pub mod Reply
 pub mod ReplyLaws
 pub mod Asked
+pub mod AskedLaws

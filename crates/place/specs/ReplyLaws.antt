@@ -12,7 +12,7 @@ use Rattle.placing.specs.declared.way.Way.{Way}
 use Rattle.plan.specs.rules.List.{longestText}
 use Rattle.plan.specs.rules.Sheet.{sheetWith}
 use Rattle.plan.specs.rules.Calls.{filledWith}
-use Rattle.plan.specs.Demands.{Answered, refusal-line, list-sheet, AnsweredAt, refusal-at, sheet-at}
+use Rattle.plan.specs.Demands.{ListRefused, RefusedAt, Answered, refusal-line, list-sheet, AnsweredAt, refusal-at, sheet-at}
 use Rattle.plan.specs.theorems.Longer.{output-first, output-first-at}
 use Rattle.plan.specs.theorems.Output.{output-answered, output-answered-at, output-within}
 use Rattle.place.specs.declared.asked.At.{At}
@@ -127,3 +127,10 @@ last-read (once-more {r = r} {room = before} reads left behind) =
       stays = behind .kept;
       counted = behind .counted;
     })
+
+-- What is explained is a refused list: without a side it is refused, and at a side there.
+pub explained-refused : {way : Way} (at : At) {text : List ℕ} → IsRefused way at text
+    → ((at ≡ Found → (number : ℕ) × ListRefused text number)
+    × ((side : Side) → at ≡ Given side → (number : ℕ) × RefusedAt way side text number))
+explained-refused {way} at {text} refused =
+    (λ is. subst (λ (a : At). IsRefused way a text) is refused, λ side is. subst (λ (a : At). IsRefused way a text) is refused)

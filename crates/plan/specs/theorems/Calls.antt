@@ -22,6 +22,9 @@ use Rattle.plan.specs.declared.plan.Planned.{Planned}
 use Rattle.plan.specs.declared.plan.AskedSide.{AskedSide}
 use Rattle.plan.specs.declared.plan.AskedCorner.{AskedCorner}
 use Rattle.plan.specs.declared.plan.Written.{Written}
+use Rattle.plan.specs.declared.plan.AskedSide.the-variants.{SideIs}
+use Rattle.plan.specs.declared.plan.AskedCorner.the-variants.{CornerIs}
+use Rattle.plan.specs.declared.plan.Written.the-variants.{Bytes}
 use Rattle.plan.specs.rules.Refusal.{numberOf, _gives_, firstRefusal, refusalNumber, numberBy, unless}
 use Rattle.plan.specs.rules.List.{Site, placesOf, enterTests, wantedAt}
 use Rattle.plan.specs.deciding.Output.{existsAt}
@@ -164,3 +167,11 @@ write-told plan buffer is left =
         × (writtenLength (writtenAnswer (unless first (length sheet))) ≡ carriedAt (refusalNumber first) (length sheet))
     by-first none sheet = (record { number-is = refl; as-it-came = λ given. absurd (given refl) }, refl)
     by-first (some why) sheet = (record { number-is = refl; as-it-came = λ given. refl }, sym (none-carried why (length sheet)))
+
+-- An accepted answer carries its value, and where a number is told none is carried.
+pub carried-values : ((side : Side) → sideCarried (SideIs side) ≡ some (sideNumber side))
+    × (((corner : ℕ) → cornerCarried (CornerIs corner) ≡ some corner) × ((n : ℕ) → writtenLength (Bytes n) ≡ some n))
+carried-values = (λ side. refl, (λ corner. refl, λ n. refl))
+
+pub carried-accepted : (value : ℕ) → carriedAt 0 value ≡ some value
+carried-accepted value = refl

@@ -2,21 +2,22 @@
 -- point. For a sheet placed above the spot, so does whoever takes a side greater than the number itself and corners 1 and 2. A sheet's own
 -- labels do not, where it prints free.
 -- Assumes nothing.
-use mathlib.Core.Path.{_≡_, _∙_, ap, subst}
+use mathlib.Core.Path.{_≡_, sym, _∙_, ap, subst}
 use mathlib.Core.List.{List}
 use mathlib.Core.Logic.{_≢_}
 use mathlib.Core.Option.{some}
-use Prim.Native.Nat.{ℕ, _*_, _≤_, _<_}
+use Prim.Native.Nat.{ℕ, _+_, _*_, _≤_, _<_}
 use native.Mathlib.Omega.{arith}
-use lib.ListN.{length, take}
+use lib.ListN.{length, take, replicate, length-replicate, getD-replicate}
 use Rattle.placing.specs.declared.units.Place.{Place}
 use Rattle.placing.specs.declared.units.Side.{Side}
 use Rattle.placing.specs.declared.units.Side.the-variants.{Free}
 use Rattle.placing.specs.declared.way.Way.{Way}
 use Rattle.placing.specs.declared.way.Way.the-variants.{Usual, Above}
 use Rattle.placing.specs.rules.Units.{siteAt, Distinct}
+use Rattle.placing.specs.rules.Corner.{Corner}
 use Rattle.placing.specs.rules.Label.{Point, Covers, pointOf}
-use Rattle.placing.specs.rules.Choice.{cornerAt, Corners, UpperCorners, MeetingPair}
+use Rattle.placing.specs.rules.Choice.{cornerAt, Corners, Upper, UpperCorners, MeetingPair}
 use Rattle.placing.specs.rules.Answer.{Answer, judgedAt, numbered, sideNumber, IsAnswer, IsChosen}
 use Rattle.placing.specs.theorems.Answer.{answer-unique}
 use Rattle.placing.specs.theorems.Choice.{meeting-of}
@@ -78,6 +79,31 @@ pub rivals-common-above : {sheet : List ℕ} → NoRivalAbove sheet → Distinct
     → 1 ≤ q → number * q < p → (corners : List ℕ) → UpperCorners (length (spotsOn sheet)) corners → CommonPoint p q (spotsOn sheet) corners
 rivals-common-above no-rival spots number p q printed some-q above corners each =
     meeting-common (omega arith) some-q spots (no-rival .rivals-meet number p q printed some-q above corners each)
+
+-- Corner 1 everywhere is a choice of upper corners.
+ones-upper : (n : ℕ) → UpperCorners n (replicate n 1)
+ones-upper n =
+    record {
+      corners = record { one-each = length-replicate n 1; corner = λ i listed. is-one Corner i listed (record { least = omega arith; most = omega arith }) };
+      each-upper = λ i listed. is-one Upper i listed (omega arith);
+    }
+  where
+    is-one : (Holds : ℕ → Type 0) (i : ℕ) → i < n → Holds 1 → Holds (cornerAt (replicate n 1) i)
+    is-one Holds i listed holds = subst Holds (sym (getD-replicate {A = ℕ} n i 1 0 listed)) holds
+
+-- A sheet that prints a number has two lines or more, since two of them meet at corner 1, at a side that is great enough. What is guaranteed
+-- asks nothing of the spots: with a premise on them this would not follow.
+pub two-lines : (way : Way) (sheet : List ℕ) (number : ℕ) → Guarantee way sheet → numberOn sheet ≡ some number → 2 ≤ length (spotsOn sheet)
+two-lines way sheet number guarantee printed = two (meeting way guarantee)
+  where
+    two : {p q : ℕ} {ps : List Place} {cs : List ℕ} → MeetingPair p q ps cs → 2 ≤ length ps
+    two pair = omega (arith, pair .first-listed, pair .second-listed, pair .different)
+
+    meeting : (w : Way) → Guarantee w sheet → MeetingPair (2 * number + 1) 1 (spotsOn sheet) (replicate (length (spotsOn sheet)) 1)
+    meeting Usual no-rival =
+        no-rival .rivals-meet number (2 * number + 1) 1 printed (omega arith) (omega arith) _ (ones-upper (length (spotsOn sheet)) .corners)
+    meeting Above no-rival =
+        no-rival .rivals-meet number (2 * number + 1) 1 printed (omega arith) (omega arith) _ (ones-upper (length (spotsOn sheet)))
 
 -- A rival of n lines by each way, said a second time so that a guarantee with a premise more is not enough: its side p/q is greater than
 -- what the way guarantees of a number h, and these are its corners.

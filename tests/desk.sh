@@ -586,7 +586,7 @@ done >"$desk/saved"
 LC_ALL=C awk 'BEGIN { FS = OFS = "\t" } { $1 = toupper($1); print }' "$desk/saved" >"$made/should"
 clean <"$desk/saved" >"$made/out" 2>"$made/err"
 judge 'clean-list, each byte within a field' "$made/should" "$made/nothing"
-for n in 241 500; do
+for n in 241 500 1000; do
     sites "$n" >"$made/list"
     clean <"$made/list" >"$made/out" 2>"$made/err"
     judge "clean-list, $n sites" "$made/list" "$made/nothing"

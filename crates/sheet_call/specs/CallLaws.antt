@@ -7,6 +7,7 @@ use mathlib.Core.List.{List}
 use mathlib.Core.Logic.{_⊎_, inl, inr}
 use mathlib.Core.Option.{some, none}
 use Prim.Native.Nat.{ℕ, _≤_, _<_}
+use native.Mathlib.Decide.{decLt}
 use native.Mathlib.Omega.{arith}
 use borrow.Author.Tests.{ltb-true, lt-leb, ne-eqb}
 use lib.Dec.{leb, ltb}
@@ -268,6 +269,19 @@ pub told-refused-at : {way : Way} {side : Side} {list buffer after : List ℕ} {
     ⊎ ((number ≡ 10) × (SheetForAt way side list (outputAt way side list) × (length buffer < length (outputAt way side list)))))
     × (after ≡ buffer)
 told-refused-at = refused-told
+
+-- Without a way the number is 3, and the buffer as it came.
+pub told-no-way : (shortest : ℕ) {buffer after : List ℕ} {number : ℕ} → Told (byNoWay shortest) buffer number after
+    → (number ≡ 3) × (after ≡ buffer)
+told-no-way shortest {buffer} {after} {number} told = by (decLt number shortest)
+  where
+    is-3 : {n : ℕ} → CallRefused (byNoWay shortest) buffer n → n ≡ 3
+    is-3 (is-refused is) = is
+    is-3 (short-buffer sheet short) = absurd sheet
+
+    by : Dec (number < shortest) → (number ≡ 3) × (after ≡ buffer)
+    by (yes below) = (is-3 (told .refused below .0), told .refused below .1)
+    by (no over) = absurd (told .sheet (omega arith))
 
 -- ---- the numbers that stand for no way or no side
 

@@ -6,6 +6,8 @@ pub mod Choice
 pub mod Answer
 -- Choosing at a given side, and at the side found.
 pub mod Given
+-- How far two labels grow: the sides at which they meet are those that exceed it.
+pub mod Growth
 -- Labels meet exactly when they cover a point in common.
 pub mod CommonPoint
 -- The greatest side of labels is the supremum of the sides of closed squares.

@@ -1,18 +1,19 @@
-// The rules of document 01 for two sites: overlap along one axis, the pair test, and which way a site lies. Distances are in half units.
+// The rules for two sites: distances, which way a site lies, and the pair test, how far two labels grow. Distances are in half units.
 use crate::corner::Direction;
 use crate::corner::Directions;
 use crate::corner::directions_of;
 use crate::corner::same_direction;
+use crate::units::Growth;
 use crate::units::HalfUnits;
 use crate::units::Place;
 use crate::units::Units;
 ghost use mathlib.Core.Path.{_≡_};
 ghost use Prim.Native.Nat.{ℕ, _≤_};
 ghost use Rattle.placing.specs.rules.Units.{greatestCoordinate, inHalfUnits, dist, OnPlan};
-ghost use Rattle.placing.specs.code.Sites.{Judged};
 ghost use Rattle.placing.specs.rules.Corner.{Corner, directionsOf};
-ghost use Rattle.placing.specs.rules.Label.{Onward, Overlap, Meet};
+ghost use Rattle.placing.specs.rules.Label.{Onward};
 ghost use Rattle.placing.specs.deciding.Decides.{Decides};
+ghost use Rattle.placing.specs.deciding.Growth.{growthAlong, furtherOf, growthOf};
 ghost use Rattle.placing.specs.code.Reach.{LiesToward, distanceBetween};
 
 // The distance between two coordinates of an axis.
@@ -60,20 +61,34 @@ pub(crate) fn lies_toward(s: Place, c: u8, t: Place) -> bool
     }
 }
 
-// Along one axis, the label that goes `d` from `a` overlaps the one that goes `e` from `b`. Two that face each other reach twice the side
-// together.
-fn overlap(side: HalfUnits, d: Direction, a: Units, e: Direction, b: Units) -> bool
-    requires { ⌜ (a .0 ≤ greatestCoordinate) × (b .0 ≤ greatestCoordinate) × Judged side ⌝ }
-    ensures { λ r. ⌜ Decides r (Overlap (side .0) 1 d (a .0) e (b .0)) ⌝ }
+// How far the label that goes `d` from `a` and the one that goes `e` from `b` grow before they overlap along this axis. Two that face each
+// other share the way between them; two that face away never overlap.
+fn growth_along(d: Direction, a: Units, e: Direction, b: Units) -> Growth
+    requires { ⌜ (a .0 ≤ greatestCoordinate) × (b .0 ≤ greatestCoordinate) ⌝ }
+    ensures { λ r. ⌜ r ≡ growthAlong d (a .0) e (b .0) ⌝ }
 {
+    let apart = distance(a, b);
     if same_direction(d, e) {
-        return distance(a, b).below(side);
+        return Growth::UpTo(apart);
     }
     if onward(d, a, b) {
-        distance(a, b).below(side.doubled())
+        Growth::UpTo(HalfUnits(apart.0 / 2))
     } else {
-        false
+        Growth::Never
     }
+}
+
+// Of the growths along both axes the one up to which two labels do not meet: never if either is never, else the larger.
+fn further(x: Growth, y: Growth) -> Growth
+    ensures { λ r. ⌜ r ≡ furtherOf x y ⌝ }
+{
+    let Growth::UpTo(along_x) = x else {
+        return x;
+    };
+    let Growth::UpTo(along_y) = y else {
+        return y;
+    };
+    if along_x.at_most(along_y) { y } else { x }
 }
 
 // The label of a site: where the site stands, and the directions in which the label goes from it. A caller who looks at many labels of a
@@ -83,11 +98,11 @@ pub(crate) struct Label {
     pub toward: Directions,
 }
 
-// The pair test: the two labels meet.
-pub(crate) fn meet(side: HalfUnits, own: Label, other: Label) -> bool
-    requires { ⌜ OnPlan (own .site) × OnPlan (other .site) × Judged side ⌝ }
+// The pair test: how far the two labels grow.
+pub(crate) fn growth(own: Label, other: Label) -> Growth
+    requires { ⌜ OnPlan (own .site) × OnPlan (other .site) ⌝ }
     ensures { λ r. ⌜ ((c e : ℕ) → own .toward ≡ directionsOf c → other .toward ≡ directionsOf e
-        → Decides r (Meet (side .0) 1 (own .site) c (other .site) e)) ⌝ }
+        → r ≡ growthOf (own .site) c (other .site) e) ⌝ }
 {
     let s = own.site;
     let t = other.site;
@@ -97,9 +112,24 @@ pub(crate) fn meet(side: HalfUnits, own: Label, other: Label) -> bool
     let fx = f.x;
     let dy = d.y;
     let fy = f.y;
-    if overlap(side, dx, s.x, fx, t.x) {
-        overlap(side, dy, s.y, fy, t.y)
-    } else {
-        false
-    }
+    further(
+        growth_along(dx, s.x, fx, t.x),
+        growth_along(dy, s.y, fy, t.y),
+    )
+}
+
+// The pair test for two places and two corners.
+pub fn growth_of(s: Place, c: u8, t: Place, e: u8) -> Growth
+    requires { ⌜ OnPlan s × Corner c × OnPlan t × Corner e ⌝ }
+    ensures { λ r. ⌜ r ≡ growthOf s c t e ⌝ }
+{
+    let own = Label {
+        site: s,
+        toward: directions_of(c),
+    };
+    let other = Label {
+        site: t,
+        toward: directions_of(e),
+    };
+    growth(own, other)
 }

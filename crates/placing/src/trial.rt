@@ -5,7 +5,8 @@
 use crate::corner::Directions;
 use crate::corner::directions_of;
 use crate::geometry::Label;
-use crate::geometry::meet;
+use crate::geometry::distance;
+use crate::geometry::growth;
 use crate::sites::index_of;
 use crate::sites::place_at;
 use crate::units::HalfUnits;
@@ -81,8 +82,8 @@ fn close_corner(
     }
 }
 
-// The label of site `k`, `own`, clashes with the one of site `j` in these directions: they are two sites, and their labels meet. Most
-// labels do not meet, so that is asked first.
+// The label of site `k`, `own`, clashes with the one of site `j` in these directions: they are two sites, and the side exceeds how far the
+// two labels grow. Most sites lie too far away along x, so that is asked first.
 fn clash(
     xs: &[u32; Limits::SITES],
     ys: &[u32; Limits::SITES],
@@ -96,11 +97,13 @@ fn clash(
     ensures { λ r. ⌜ ((c e : ℕ) → own ≡ labelAt (siteIn (now (xs .entry)) (now (ys .entry)) k) c → toward ≡ directionsOf e
         → Decides r (Clash (side .0) (now (xs .entry)) (now (ys .entry)) k c j e)) ⌝ }
 {
-    let other = Label {
-        site: place_at(xs[j], ys[j]),
-        toward,
-    };
-    if meet(side, own, other) {
+    let s = own.site;
+    let t = place_at(xs[j], ys[j]);
+    if side.doubled().at_most(distance(s.x, t.x)) {
+        return false;
+    }
+    let other = Label { site: t, toward };
+    if side.exceeds(growth(own, other)) {
         return j != k;
     }
     false

@@ -5,6 +5,7 @@ ghost use Rattle.placing.specs.rules.Units.{inHalfUnits, greatestCoordin
 ghost use Rattle.placing.specs.rules.Answer.{judgedAt};
 ghost use Rattle.placing.specs.code.Sites.{Judged};
 ghost use Rattle.placing.specs.deciding.Decides.{Decides};
+ghost use Rattle.placing.specs.rules.Growth.{Exceeds};
 
 // A coordinate, or a distance between two, in units.
 pub struct Units(pub u32);
@@ -22,6 +23,12 @@ pub struct Place {
 pub enum Side {
     Number(HalfUnits),
     Free,
+}
+
+// How far two labels grow: up to a side, the greatest at which they do not meet; or they never meet.
+pub enum Growth {
+    UpTo(HalfUnits),
+    Never,
 }
 
 // The side at which a side is judged: free at 20,001.
@@ -82,6 +89,16 @@ impl HalfUnits {
         ensures { λ r. ⌜ r .0 ≡ max (self .0) (other .0) ⌝ }
     {
         if self.0 <= other.0 { other } else { self }
+    }
+
+    // Two labels meet at the sides that exceed their growth.
+    pub(crate) fn exceeds(self, growth: Growth) -> bool
+        ensures { λ r. ⌜ Decides r (Exceeds (self .0) 1 growth) ⌝ }
+    {
+        match growth {
+            Growth::UpTo(most) => most.below(self),
+            Growth::Never => false,
+        }
     }
 
     // Twice a side: the side of the doubled label, and how far two labels that face each other reach together.

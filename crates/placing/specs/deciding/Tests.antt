@@ -4,12 +4,16 @@ use mathlib.Core.Path.{_≡_, refl, sym, ap, subst, _∙_}
 use mathlib.Core.Bool.{Bool, true, false, not, _&&_}
 use mathlib.Core.List.{List}
 use mathlib.Core.Logic.{_≢_, _⊎_, inl, inr, ⊎-elim}
-use Prim.Native.Nat.{ℕ, zero, suc, _*_, _≤_, _<_}
+use Prim.Native.Nat.{ℕ, zero, suc, _-_, _*_, _≤_, _<_, max}
+use native.Mathlib.Nat.{mul-le-mul-right}
 use native.Mathlib.Omega.{arith}
-use native.Mathlib.Decide.{ℕ-discrete}
+use native.Mathlib.Decide.{ℕ-discrete, decLe}
 use lib.Dec.{leb, ltb, eqb}
 use lib.ListN.{length}
 use borrow.Author.Tests.{leb-true, leb-false, eqb-true, eqb-false}
+use Rattle.placing.specs.declared.units.Growth.{Growth}
+use Rattle.placing.specs.declared.units.Growth.the-variants.{UpTo, Never}
+use Rattle.placing.specs.declared.units.HalfUnits.{HalfUnits}
 use Rattle.placing.specs.declared.units.Place.{Place}
 use Rattle.placing.specs.declared.way.Way.{Way}
 use Rattle.placing.specs.declared.way.Way.the-variants.{Usual, Above}
@@ -20,7 +24,9 @@ use Rattle.placing.specs.rules.Corner.{Corner, toward, opposite}
 use Rattle.placing.specs.rules.Label.{Onward, upward, downward, Overlap, same-direction, facing, Meet}
 use Rattle.placing.specs.rules.Crowd.{Ahead, DoubledCovers, Crowded}
 use Rattle.placing.specs.rules.Choice.{cornerAt, Corners, Upper, Allowed, uncrowded, upper, Good, MeetingPair}
-use Rattle.placing.specs.deciding.Decides.{Decides, decides-same, decides-second, decides-no, decides-yes}
+use Rattle.placing.specs.rules.Growth.{Exceeds, beyond}
+use Rattle.placing.specs.deciding.Growth.{upTo, facingGrowth, growthAlong, furtherOf, axisGrowth, growthOf, exceedsTest}
+use Rattle.placing.specs.deciding.Decides.{Decides, decides-same, decides-second, decides-no, decides-yes, holds-yes}
 
 -- The tests of numbers decide.
 pub le-decides : (a b : ℕ) → Decides (leb a b) (a ≤ b)
@@ -150,15 +156,15 @@ abbrev pub onwardTest : Direction → ℕ → ℕ → Bool
 onwardTest Up a b = leb a b
 onwardTest Down a b = leb b a
 
+up-ordered : {a b : ℕ} → Onward Up a b → a ≤ b
+up-ordered (upward ordered) = ordered
+
+down-ordered : {a b : ℕ} → Onward Down a b → b ≤ a
+down-ordered (downward ordered) = ordered
+
 pub onward-decides : (d : Direction) (a b : ℕ) → Decides (onwardTest d a b) (Onward d a b)
-onward-decides Up a b = decides-same upward ordered (le-decides a b)
-  where
-    ordered : Onward Up a b → a ≤ b
-    ordered (upward l) = l
-onward-decides Down a b = decides-same downward ordered (le-decides b a)
-  where
-    ordered : Onward Down a b → b ≤ a
-    ordered (downward l) = l
+onward-decides Up a b = decides-same upward up-ordered (le-decides a b)
+onward-decides Down a b = decides-same downward down-ordered (le-decides b a)
 
 -- What decides the bound on the distance decides overlap, for labels that go the same way,
 pub same-direction-decides : {answer : Bool} {p q : ℕ} {d e : Direction} {a b : ℕ} → d ≡ e → Decides answer (inHalfUnits (dist a b) * q < p)
@@ -178,26 +184,74 @@ facing-decides {p = p} {q = q} {d = d} {e = e} {a = a} {b = b} against = decides
     back (same-direction is near) = absurd (opposite-differs d (against ∙ sym is))
     back (facing is onward near) = (onward, near)
 
-abbrev pub overlapTest : (p q : ℕ) → Direction → ℕ → Direction → ℕ → Bool
-overlapTest p q d a e b =
-    elim (same-or-opposite d e) [ inl same ↦ ltb (inHalfUnits (dist a b) * q) p | inr against ↦ onwardTest d a b && ltb (dist a b * q) p ]
+-- A side exceeds a number by the bound on it, and a growth where the test says so.
+pub bound-exceeded : {p q : ℕ} {g : HalfUnits} → Exceeds p q (UpTo g) → g .0 * q < p
+bound-exceeded (beyond more) = more
 
-pub overlap-decides : (p q : ℕ) (d : Direction) (a : ℕ) (e : Direction) (b : ℕ) → Decides (overlapTest p q d a e b) (Overlap p q d a e b)
-overlap-decides p q d a e b = by-direction (same-or-opposite d e)
+pub exceeds-decides : (p q : ℕ) (growth : Growth) → Decides (exceedsTest p q growth) (Exceeds p q growth)
+exceeds-decides p q (UpTo g) = decides-same beyond bound-exceeded (lt-decides _ _)
+exceeds-decides p q Never = decides-no (elim [ ])
+
+-- Labels overlap along an axis at the sides that exceed their growth along it.
+facing-exceeds : (p q up down : ℕ) → Decides (exceedsTest p q (facingGrowth up down)) ((up ≤ down) × (dist up down * q < p))
+facing-exceeds p q up down = go (leb up down) (le-decides up down)
   where
-    by-direction : (w : (d ≡ e) ⊎ (opposite d ≡ e))
-        → Decides (elim w [ inl same ↦ ltb (inHalfUnits (dist a b) * q) p | inr against ↦ onwardTest d a b && ltb (dist a b * q) p ])
-        (Overlap p q d a e b)
-    by-direction (inl same) = same-direction-decides same (lt-decides _ _)
-    by-direction (inr against) = facing-decides against (both-decide (onward-decides d a b) (lt-decides _ _))
+    go : (b : Bool) → Decides b (up ≤ down)
+        → Decides (exceedsTest p q (elim b [ true ↦ upTo (down - up) | false ↦ Never ])) ((up ≤ down) × (dist up down * q < p))
+    go true d =
+        let ordered : up ≤ down = d .yes-holds refl in
+        let same : dist up down ≡ down - up = omega arith in
+        rw same (decides-second ordered (lt-decides _ _) (λ o near. (o, near)) (λ r. r .1))
+    go false d = decides-no (λ r. d .no-fails refl (r .0))
 
+pub overlap-decides : (p q : ℕ) (d : Direction) (a : ℕ) (e : Direction) (b : ℕ)
+    → Decides (exceedsTest p q (growthAlong d a e b)) (Overlap p q d a e b)
+overlap-decides p q Up a Up b = same-direction-decides refl (lt-decides _ _)
+overlap-decides p q Down a Down b = same-direction-decides refl (lt-decides _ _)
+overlap-decides p q Up a Down b =
+    facing-decides refl (decides-same (λ r. (upward (r .0), r .1)) (λ r. (up-ordered (r .0), r .1)) (facing-exceeds p q a b))
+overlap-decides p q Down a Up b =
+    let same : dist b a ≡ dist a b = omega arith in
+    facing-decides refl
+    (decides-same (λ r. (downward (r .0), rw same at (r .1))) (λ r. (down-ordered (r .0), rw same (r .1))) (facing-exceeds p q b a))
+
+-- A side that exceeds the larger of two numbers exceeds both.
+larger-decides : {A B : Type 0} (p q : ℕ) {x y : ℕ} → x ≤ y → Decides (ltb (x * q) p) A → Decides (ltb (y * q) p) B
+    → Decides (ltb (y * q) p) (A × B)
+larger-decides p q {x} {y} ordered d e =
+    record {
+      yes-holds = λ is.
+          let more : y * q < p = lt-decides _ _ .yes-holds is in
+          let scaled : x * q ≤ y * q = mul-le-mul-right q ordered in
+          let less : x * q < p = omega arith in
+          (d .yes-holds (holds-yes (lt-decides _ _) less), e .yes-holds is);
+      no-fails = λ is r. e .no-fails is (r .1);
+    }
+
+pub further-decides : {A B : Type 0} (p q : ℕ) (x y : Growth) → Decides (exceedsTest p q x) A → Decides (exceedsTest p q y) B
+    → Decides (exceedsTest p q (furtherOf x y)) (A × B)
+further-decides p q Never y d e = decides-no (λ r. d .no-fails refl (r .0))
+further-decides p q (UpTo x) Never d e = decides-no (λ r. e .no-fails refl (r .1))
+further-decides {A} {B} p q (UpTo x) (UpTo y) d e = go (decLe (x .0) (y .0))
+  where
+    go : Dec (x .0 ≤ y .0) → Decides (ltb (max (x .0) (y .0) * q) p) (A × B)
+    go (yes ordered) = let is : max (x .0) (y .0) ≡ y .0 = omega arith in rw is (larger-decides p q ordered d e)
+    go (no over) =
+        let is : max (x .0) (y .0) ≡ x .0 = omega arith in
+        let ordered : y .0 ≤ x .0 = omega arith in
+        rw is (decides-same (λ r. (r .1, r .0)) (λ r. (r .1, r .0)) (larger-decides p q ordered e d))
+
+-- Two labels meet at the sides that exceed their growth.
 abbrev pub meetTest : (p q : ℕ) → Place → ℕ → Place → ℕ → Bool
-meetTest p q s c t e = bothAxes (λ axis. overlapTest p q (toward axis c) (along axis s) (toward axis e) (along axis t))
+meetTest p q s c t e = exceedsTest p q (growthOf s c t e)
 
 pub meet-decides : (p q : ℕ) (s : Place) (c : ℕ) (t : Place) (e : ℕ) → Decides (meetTest p q s c t e) (Meet p q s c t e)
 meet-decides p q s c t e =
-    axes-decide (λ axis. overlapTest p q (toward axis c) (along axis s) (toward axis e) (along axis t))
-    (λ axis. overlap-decides p q (toward axis c) (along axis s) (toward axis e) (along axis t))
+    decides-same (λ r. both _ (r .0) (r .1)) (λ meet. (meet X, meet Y))
+    (further-decides p q (axisGrowth s c t e X) (axisGrowth s c t e Y) (at X) (at Y))
+  where
+    at : (axis : Axis) → Decides (exceedsTest p q (axisGrowth s c t e axis)) (Overlap p q (toward axis c) (along axis s) (toward axis e) (along axis t))
+    at axis = overlap-decides p q (toward axis c) (along axis s) (toward axis e) (along axis t)
 
 abbrev pub aheadTest : ℕ → Direction → ℕ → ℕ → Bool
 aheadTest h d a b = onwardTest d a b && ltb (dist a b) h

@@ -1,0 +1,111 @@
+-- Laws of `Asked`: the answer by the tests, what it tells, and that this is told in one way.
+-- Assumes nothing.
+use mathlib.Core.Path.{_≡_, refl, sym, ap, _∙_}
+use mathlib.Core.Bool.{Bool, true, false, not, _||_}
+use mathlib.Core.List.{List, [], _∷_}
+use mathlib.Core.Option.{Option, none, some}
+use Prim.Native.Nat.{ℕ, _≤_}
+use native.Mathlib.Omega.{arith}
+use borrow.Author.Tests.{ne-eqb}
+use Rattle.placing.specs.declared.units.Growth.{Growth}
+use Rattle.placing.specs.declared.units.Place.{Place}
+use Rattle.placing.specs.rules.Units.{greatestCoordinate}
+use Rattle.placing.specs.rules.Label.{Meet}
+use Rattle.placing.specs.rules.Growth.{growthNumber, Exceeds}
+use Rattle.placing.specs.deciding.Growth.{upTo, growthOf}
+use Rattle.placing.specs.deciding.Decides.{Decides, decides-yes, decides-no}
+use Rattle.placing.specs.deciding.Tests.{le-decides, both-decide}
+use Rattle.placing.specs.theorems.Growth.{grows-to, grows-one, meet-beyond, same-place}
+use Rattle.plan.specs.declared.refusal.Refusal.{Refusal}
+use Rattle.plan.specs.declared.refusal.Refusal.the-variants.{BadNumber}
+use Rattle.plan.specs.rules.Refusal.{numberOf, Test, _gives_, firstRefusal, refusalNumber, numberBy, unless, afterTests}
+use Rattle.plan.specs.calls.Answers.{carriedAt}
+use Rattle.plan.specs.theorems.Tables.{number-some}
+use Rattle.growth.specs.declared.AskedGrowth.{AskedGrowth}
+use Rattle.growth.specs.declared.AskedGrowth.the-variants.{GrowthIs, NoGrowth}
+use Rattle.growth.specs.Asked.{
+  noLabel,
+  growthTests,
+  growthAskedNumber,
+  growthCarried,
+  growthAnswer,
+  growthAsked,
+  HasLabel,
+  GrowthTold,
+  told,
+  told-3,
+}
+
+-- The tests decide whether there is a label to be asked about.
+pub label-decides : (s : Place) (c : ℕ) → Decides (not (noLabel s c)) (HasLabel s c)
+label-decides s c =
+    go (both-decide (le-decides (s .x .0) greatestCoordinate) (le-decides (s .y .0) greatestCoordinate))
+    (both-decide (le-decides 1 c) (le-decides c 4))
+  where
+    go : {a b : Bool} → Decides a ((s .x .0 ≤ greatestCoordinate) × (s .y .0 ≤ greatestCoordinate)) → Decides b ((1 ≤ c) × (c ≤ 4))
+        → Decides (not (not a || not b)) (HasLabel s c)
+    go {a = true} {b = true} inside corner =
+        let on = inside .yes-holds refl in
+        let is = corner .yes-holds refl in
+        decides-yes (record { on-plan = record { on-x = on .0; on-y = on .1 }; corner = record { least = is .0; most = is .1 } })
+    go {a = true} {b = false} inside corner = decides-no (λ label. corner .no-fails refl (label .corner .least, label .corner .most))
+    go {a = false} inside corner = decides-no (λ label. inside .no-fails refl (label .on-plan .on-x, label .on-plan .on-y))
+
+pub has-label : (s : Place) (c : ℕ) → noLabel s c ≡ false → HasLabel s c
+has-label s c is = label-decides s c .yes-holds (ap not is)
+
+module _ (s : Place) (c : ℕ) (t : Place) (e : ℕ) where
+  abbrev tested : (first second : Bool) → List Test
+  tested first second = first gives BadNumber ∷ second gives BadNumber ∷ []
+
+  -- What is handed back tells what the contract says,
+  asked-tells : GrowthTold s c t e (growthAsked s c t e)
+  asked-tells = go (noLabel s c) (noLabel t e) (label-decides s c) (label-decides t e)
+    where
+      go : (first second : Bool) → Decides (not first) (HasLabel s c) → Decides (not second) (HasLabel t e)
+          → GrowthTold s c t e (growthAnswer (afterTests (tested first second) (growthOf s c t e)))
+      go true second own other = told-3 (λ has-own has-other. own .no-fails refl has-own)
+      go false true own other = told-3 (λ has-own has-other. other .no-fails refl has-other)
+      go false false own other = told (own .yes-holds refl) (other .yes-holds refl) (grows-to s c t e)
+
+  -- with its number and its value.
+  asked-values : (growthAskedNumber (growthAsked s c t e) ≡ numberBy (growthTests s c t e))
+      × (growthCarried (growthAsked s c t e) ≡ carriedAt (numberBy (growthTests s c t e)) (growthNumber (growthOf s c t e)))
+  asked-values = go (noLabel s c) (noLabel t e)
+    where
+      go : (first second : Bool)
+          → (growthAskedNumber (growthAnswer (afterTests (tested first second) (growthOf s c t e))) ≡ numberBy (tested first second))
+          × (growthCarried (growthAnswer (afterTests (tested first second) (growthOf s c t e)))
+          ≡ carriedAt (numberBy (tested first second)) (growthNumber (growthOf s c t e)))
+      go true second = (refl, refl)
+      go false true = (refl, refl)
+      go false false = (refl, refl)
+
+  -- So what is handed back has the whole contract.
+  pub asked-meets : {r : AskedGrowth} → r ≡ growthAsked s c t e
+      → (r ≡ growthAsked s c t e) × ((growthAskedNumber r ≡ numberBy (growthTests s c t e)) × (GrowthTold s c t e r
+      × (growthCarried r ≡ carriedAt (numberBy (growthTests s c t e)) (growthNumber (growthOf s c t e)))))
+  asked-meets is = (is, rw is (asked-values .0, (asked-tells, asked-values .1)))
+
+-- ---- what the contract says
+
+-- It is told in one way.
+pub told-one : {s : Place} {c : ℕ} {t : Place} {e : ℕ} {r other : AskedGrowth} → GrowthTold s c t e r → GrowthTold s c t e other → r ≡ other
+told-one (told own beside grows) (told own′ beside′ grows′) = ap GrowthIs (grows-one grows grows′)
+told-one (told own beside grows) (told-3 refused) = absurd (refused own beside)
+told-one (told-3 refused) (told own beside grows) = absurd (refused own beside)
+told-one (told-3 refused) (told-3 refused′) = refl
+
+-- The law for fractions too: where a growth is told, the labels meet at p/q exactly when it is a number g and p > g × q.
+pub told-meets : {s : Place} {c : ℕ} {t : Place} {e : ℕ} {growth : Growth} → GrowthTold s c t e (GrowthIs growth) → (p q : ℕ)
+    → (Meet p q s c t e → Exceeds p q growth) × (Exceeds p q growth → Meet p q s c t e)
+told-meets (told own beside grows) = meet-beyond grows
+
+-- A refusal is 3, and is given only where a place is outside the range or a corner is not 1 to 4.
+pub told-refused : {s : Place} {c : ℕ} {t : Place} {e : ℕ} {why : Refusal} → GrowthTold s c t e (NoGrowth why)
+    → (numberOf why ≡ 3) × (HasLabel s c → HasLabel t e → ⊥)
+told-refused (told-3 refused) = (refl, refused)
+
+-- "One place given twice gives 0", at whatever corners.
+pub twice-0 : {s : Place} {c e : ℕ} {r : AskedGrowth} → HasLabel s c → HasLabel s e → GrowthTold s c s e r → r ≡ GrowthIs (upTo 0)
+twice-0 {s} {c} {e} own beside tells = told-one tells (told own beside (rw (sym (same-place s c e)) (grows-to s c s e)))

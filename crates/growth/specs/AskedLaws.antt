@@ -59,7 +59,7 @@ module _ (s : Place) (c : ℕ) (t : Place) (e : ℕ) where
   tested first second = first gives BadNumber ∷ second gives BadNumber ∷ []
 
   -- What is handed back tells what the contract says,
-  asked-tells : GrowthTold s c t e (growthAsked s c t e)
+  pub asked-tells : GrowthTold s c t e (growthAsked s c t e)
   asked-tells = go (noLabel s c) (noLabel t e) (label-decides s c) (label-decides t e)
     where
       go : (first second : Bool) → Decides (not first) (HasLabel s c) → Decides (not second) (HasLabel t e)

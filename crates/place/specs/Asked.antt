@@ -4,7 +4,7 @@ use mathlib.Core.Bool.{Bool, true, false, _&&_}
 use mathlib.Core.List.{List, [], _∷_}
 use Prim.Native.Nat.{ℕ, zero, suc}
 use lib.Dec.{leb}
-use lib.ListN.{getD, take}
+use lib.ListN.{getD}
 use Rattle.placing.specs.declared.units.Side.{Side}
 use Rattle.placing.specs.declared.units.Side.the-variants.{Number, Free}
 use Rattle.placing.specs.declared.way.Way.{Way}
@@ -16,11 +16,8 @@ use Rattle.place.specs.declared.asked.At.{At}
 use Rattle.place.specs.declared.asked.At.the-variants.{Found, Given}
 use Rattle.place.specs.declared.asked.Task.{Task}
 use Rattle.place.specs.declared.asked.Task.the-variants.{Place, Usage}
-use Rattle.place.specs.declared.asked.Word.{Word}
-
--- The bytes of a word.
-abbrev pub bytesIn : Word → List ℕ
-bytesIn word = take (word .len) (word .bytes)
+use Rattle.desk.specs.declared.Word.{Word}
+use Rattle.desk.specs.Words.{bytesIn}
 
 -- It is the word above.
 abbrev pub isAbove : Word → Bool

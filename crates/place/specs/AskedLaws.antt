@@ -9,8 +9,9 @@ use Rattle.plan.specs.rules.Sheet.{sideText, sideIn}
 use Rattle.plan.specs.calls.Given.{sideByWord}
 use Rattle.plan.specs.theorems.Text.{same-bytes-same}
 use Rattle.plan.specs.theorems.ReadOff.{side-in-text}
-use Rattle.place.specs.declared.asked.Word.{Word}
-use Rattle.place.specs.Asked.{bytesIn, isAbove}
+use Rattle.desk.specs.declared.Word.{Word}
+use Rattle.desk.specs.Words.{bytesIn}
+use Rattle.place.specs.Asked.{isAbove}
 
 -- Another word is not taken for it.
 pub above-word : (word : Word) → isAbove word ≡ true → bytesIn word ≡ 97 ∷ 98 ∷ 111 ∷ 118 ∷ 101 ∷ []

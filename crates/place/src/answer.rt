@@ -3,7 +3,7 @@
 use crate::asked::At;
 use crate::asked::How;
 use crate::explain::tell_refused;
-use crate::tell::tell;
+use desk::tell;
 use libc::STDIN_FILENO;
 use libc::STDOUT_FILENO;
 use plan::limits::TextLimits;

@@ -1,10 +1,13 @@
 // What the program is asked for by the words behind its name.
+use desk::Word;
+use desk::word_at;
+use desk::word_count;
 use placing::units::Side;
 use placing::way::Way;
 use plan::name::same_bytes;
 use plan::number::side_from;
 ghost use mathlib.Core.Path.{_≡_};
-ghost use Rattle.io.specs.Counts.{Counts};
+ghost use Rattle.desk.specs.Words.{Counted};
 ghost use Rattle.place.specs.Asked.{placeBy, isAbove, sideTask, taskOf};
 
 // At which side the list is placed: the one that is found, or a given one.
@@ -25,13 +28,6 @@ pub(crate) enum Task {
     Usage,
 }
 
-// A word, from the front. One that does not fit is longer than every word that is known, and counts as none; but its first byte stands
-// there.
-struct Word {
-    bytes: [u8; 8],
-    len: usize,
-}
-
 fn place_by(way: Way, at: At) -> Task
     ensures { λ r. ⌜ r ≡ placeBy way at ⌝ }
 {
@@ -39,7 +35,7 @@ fn place_by(way: Way, at: At) -> Task
 }
 
 fn is_above(word: Word) -> bool
-    requires { ⌜ Counts (word .len) (word .bytes) ⌝ }
+    requires { ⌜ Counted word ⌝ }
     ensures { λ r. ⌜ r ≡ isAbove word ⌝ }
 {
     let bytes = word.bytes;
@@ -49,7 +45,7 @@ fn is_above(word: Word) -> bool
 
 // The word free, and a word that starts with a digit, ask for the side that they write, be it one or not; other words ask for none.
 fn side_asked(way: Way, word: Word) -> Task
-    requires { ⌜ Counts (word .len) (word .bytes) ⌝ }
+    requires { ⌜ Counted word ⌝ }
     ensures { λ r. ⌜ r ≡ sideTask way word ⌝ }
 {
     let bytes = word.bytes;
@@ -70,7 +66,7 @@ fn side_asked(way: Way, word: Word) -> Task
 
 // By the number of words, and the first two of them.
 fn words_asked(words: usize, one: Word, two: Word) -> Task
-    requires { ⌜ Counts (one .len) (one .bytes) × Counts (two .len) (two .bytes) ⌝ }
+    requires { ⌜ Counted one × Counted two ⌝ }
     ensures { λ r. ⌜ r ≡ taskOf words one two ⌝ }
 {
     if words == 0 {
@@ -91,19 +87,7 @@ fn words_asked(words: usize, one: Word, two: Word) -> Task
     Task::Usage
 }
 
-// The argument with this number.
-fn word_at(i: usize) -> Word
-    ensures { λ r. ⌜ Counts (r .len) (r .bytes) ⌝ }
-{
-    let mut bytes = [0u8; 8];
-    let len = os::arg(i, &mut bytes);
-    Word { bytes, len }
-}
-
 // What the arguments ask for. Those that are missing are words of no bytes.
 pub(crate) fn asked() -> Task {
-    let count = os::arg_count();
-    // The first is the program's own name.
-    let words = if count < 1 { 0 } else { count - 1 };
-    words_asked(words, word_at(1), word_at(2))
+    words_asked(word_count(), word_at(1), word_at(2))
 }

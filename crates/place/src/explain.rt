@@ -1,7 +1,7 @@
 // Why a list is refused, on standard error: the line, the rule in words, and a hint where a common cause shows in the line's bytes.
 use crate::asked::At;
 use crate::asked::How;
-use crate::tell::tell;
+use desk::tell;
 use hints::Explanation;
 use hints::Hint;
 use hints::explain;

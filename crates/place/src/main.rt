@@ -3,7 +3,6 @@
 mod answer;
 mod asked;
 mod explain;
-mod tell;
 mod usage;
 
 use crate::answer::answer_input;

@@ -1,5 +1,5 @@
 // What the program does, for whoever starts it with other words than above and a side.
-use crate::tell::tell;
+use desk::tell;
 
 pub(crate) fn tell_usage() {
     tell(b"usage: place [above] [SIDE] < LIST > SHEET\n");

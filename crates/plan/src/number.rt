@@ -13,9 +13,9 @@ ghost use Rattle.placing.specs.rules.Answer.{sideNumber};
 ghost use Rattle.placing.specs.rules.Units.{greatestSide};
 ghost use Rattle.plan.specs.rules.Text.{numberIn, digitsAfter};
 ghost use Rattle.plan.specs.rules.Sheet.{sideIn};
-ghost use Rattle.plan.specs.calls.Given.{sideByWord};
+ghost use Rattle.plan.specs.calls.Given.{sideByWord, coordinateRead, coordinateNumber};
 ghost use Rattle.plan.specs.code.NumberRead.{numberRead};
-ghost use Rattle.plan.specs.code.Coordinate.{coordinateRead, placeRead};
+ghost use Rattle.plan.specs.code.Coordinate.{placeRead};
 
 // The digit 0; the others follow it.
 pub(crate) const ZERO: u32 = b'0' as u32;
@@ -27,7 +27,7 @@ enum NumberRead {
 }
 
 // A coordinate, where the text is one.
-pub(crate) enum Coordinate {
+pub enum Coordinate {
     At(Units),
     Nowhere,
 }
@@ -121,8 +121,9 @@ fn number_from(text: &[u8], most: u32) -> NumberRead
 }
 
 // The coordinate that a text writes, in decimal digits with no leading zero.
-pub(crate) fn coordinate_from(text: &[u8]) -> Coordinate
-    ensures { λ r. ⌜ r ≡ coordinateRead (numberIn (now (text .entry))) ⌝ }
+pub fn coordinate_from(text: &[u8]) -> Coordinate
+    ensures coordinate { λ r. ⌜ r ≡ coordinateRead (numberIn (now (text .entry))) ⌝ }
+    ensures value { λ r. ⌜ coordinateNumber r ≡ coordinateNumber (coordinateRead (numberIn (now (text .entry)))) ⌝ }
 {
     let NumberRead::Is(n) = number_from(text, Limits::COORDINATE) else {
         return Coordinate::Nowhere;

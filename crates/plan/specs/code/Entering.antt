@@ -27,7 +27,8 @@ use Rattle.plan.specs.calls.Answers.{handed}
 use Rattle.plan.specs.theorems.Entering.{Passed, coordinate-fits}
 use Rattle.plan.specs.theorems.Plan.{Holding}
 use Rattle.plan.specs.code.NameRead.{Padded, nameRead, nameWhere}
-use Rattle.plan.specs.code.Coordinate.{coordinateRead, placeRead}
+use Rattle.plan.specs.calls.Given.{coordinateRead}
+use Rattle.plan.specs.code.Coordinate.{placeRead}
 use Rattle.plan.specs.code.Taken.{siteOf, namesTaken, placesTaken}
 use Rattle.plan.specs.code.PlanLaws.{holding-name, holding-place}
 

@@ -21,7 +21,7 @@ use Rattle.plan.specs.rules.Text.{sameBytes, zeroDigit, digitsAfter, num
 use Rattle.plan.specs.rules.Sheet.{freeWord, numberedSide, sideIn}
 use Rattle.plan.specs.calls.Given.{sideByWord}
 use Rattle.plan.specs.code.NumberRead.{numberRead, coordinateOf, sideOf}
-use Rattle.plan.specs.code.Coordinate.{coordinateRead}
+use Rattle.plan.specs.calls.Given.{coordinateRead}
 
 -- A digit is appended,
 digit-last : (n b : ℕ) → zeroDigit ≤ b → b ≤ 57 → digitsAfter n (b ∷ []) ≡ some (n * 10 + (b - zeroDigit))

@@ -4,7 +4,7 @@ use Prim.Native.Nat.{ℕ, zero, suc, _<_}
 use native.Mathlib.Omega.{arith}
 use borrow.Author.Needs.{needs}
 use Rattle.place.specs.declared.asked.Task.the-variants.{Usage}
-use Rattle.place.specs.declared.asked.Word.{Word}
+use Rattle.desk.specs.declared.Word.{Word}
 use Rattle.place.specs.Asked.{taskOf}
 use Rattle.place.proofs.asked.words_asked.Statement.{statement}
 use Rattle.place.proofs.asked.words_asked.Tie as tie

@@ -24,7 +24,7 @@ returns c =
     let x = numberIn (now (start .args .x)) in
     let y = numberIn (now (start .args .y)) in
     let name-is = c .before .before .before .name-from .ensures in
-    let place-is = place-read x y (c .before .before .coordinate-from .ensures) (c .before .coordinate-from2 .ensures) (c .place-at .ensures) in
+    let place-is = place-read x y (c .before .before .coordinate-from .ensures .0) (c .before .coordinate-from2 .ensures .0) (c .place-at .ensures) in
     record {
       fits = name-fits (now (start .args .name)) name-is;
       enters = λ sites. entered-as-read sites (now (start .args .name)) x y name-is place-is;

@@ -2,7 +2,7 @@
 use borrow.Author.Needs.{needs}
 use borrow.Author.Tests.{le-leb, lt-leb}
 use Rattle.placing.specs.rules.Units.{greatestCoordinate}
-use Rattle.plan.specs.code.Coordinate.{coordinateRead}
+use Rattle.plan.specs.calls.Given.{coordinateRead}
 use Rattle.plan.proofs.number.coordinate_at.Statement.{statement}
 use Rattle.plan.proofs.number.coordinate_at.Tie as tie
 

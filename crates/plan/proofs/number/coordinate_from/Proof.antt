@@ -1,7 +1,8 @@
 -- `coordinate_from` reads a coordinate: a number up to the greatest one. Assumes nothing.
-use mathlib.Core.Path.{sym, _∙_}
+use mathlib.Core.Path.{sym, ap, _∙_}
 use borrow.Author.Needs.{needs}
 use Rattle.plan.specs.rules.Text.{numberIn}
+use Rattle.plan.specs.calls.Given.{coordinateNumber}
 use Rattle.plan.specs.code.NumberLaws.{number-coordinate}
 use Rattle.plan.proofs.number.coordinate_from.Statement.{statement}
 use Rattle.plan.proofs.number.coordinate_from.Tie as tie
@@ -18,12 +19,14 @@ enum-told c = search needs
 returns : tie.Need-returns
 returns c =
     let call = c .before .before in
-    number-coordinate (numberIn (call .before .before .args .text .now)) (sym (c .enum-told .given .1) ∙ call .number-from .ensures)
+    let is = number-coordinate (numberIn (call .before .before .args .text .now)) (sym (c .enum-told .given .1) ∙ call .number-from .ensures) in
+    (is, ap coordinateNumber is)
 
 returns-2 : tie.Need-returns-2
 returns-2 c =
     let call = c .before .before .before in
-    number-coordinate (numberIn (call .before .before .args .text .now)) (sym (c .before .n .given .1) ∙ call .number-from .ensures)
+    let is = number-coordinate (numberIn (call .before .before .args .text .now)) (sym (c .before .n .given .1) ∙ call .number-from .ensures) in
+    (is, ap coordinateNumber is)
 
 pub coordinate-from-spec : {M : Type 1} → statement M
 coordinate-from-spec =

@@ -1,0 +1,2 @@
+-- The words behind a program's name.
+pub mod Words

@@ -58,6 +58,16 @@ module _ (s : Place) (c : ℕ) (t : Place) (e : ℕ) where
   abbrev tested : (first second : Bool) → List Test
   tested first second = first gives BadNumber ∷ second gives BadNumber ∷ []
 
+  -- The answer, by the two tests.
+  pub first-refused : noLabel s c ≡ true → growthAsked s c t e ≡ NoGrowth BadNumber
+  first-refused is = rw is
+
+  pub second-refused : noLabel s c ≡ false → noLabel t e ≡ true → growthAsked s c t e ≡ NoGrowth BadNumber
+  second-refused passed is = rw (passed, is)
+
+  pub growth-given : noLabel s c ≡ false → noLabel t e ≡ false → growthAsked s c t e ≡ GrowthIs (growthOf s c t e)
+  growth-given passed also = rw (passed, also)
+
   -- What is handed back tells what the contract says,
   pub asked-tells : GrowthTold s c t e (growthAsked s c t e)
   asked-tells = go (noLabel s c) (noLabel t e) (label-decides s c) (label-decides t e)

@@ -4,7 +4,7 @@ use native.Mathlib.Omega.{arith}
 use borrow.Author.Needs.{needs}
 use Rattle.growth.specs.declared.AskedGrowth.the-variants.{GrowthIs}
 use Rattle.growth.specs.Asked.{HasLabel}
-use Rattle.growth.specs.AskedLaws.{has-label, asked-meets}
+use Rattle.growth.specs.AskedLaws.{has-label, first-refused, second-refused, growth-given, asked-meets}
 use Rattle.growth.proofs.how_far.Statement.{statement}
 use Rattle.growth.proofs.how_far.Tie as tie
 
@@ -15,7 +15,8 @@ returns : tie.Need-returns
 returns c =
     let tested = c .before in
     let args = tested .before .args in
-    asked-meets (args .s) (args .c) (args .t) (args .e) (rw (sym (tested .no-label .ensures), c .if1 .taken))
+    asked-meets (args .s) (args .c) (args .t) (args .e)
+    (sym (first-refused (args .s) (args .c) (args .t) (args .e) (sym (tested .no-label .ensures) ∙ c .if1 .taken)))
 
 no-label-requires-2 : tie.Need-no-label-requires-2
 no-label-requires-2 c κs = search needs
@@ -26,7 +27,9 @@ returns-2 c =
     let first = second .before .before in
     let args = first .before .args in
     asked-meets (args .s) (args .c) (args .t) (args .e)
-    (rw (sym (first .no-label .ensures), second .before .if1 .left, sym (second .no-label2 .ensures), c .if2 .taken))
+    (sym
+    (second-refused (args .s) (args .c) (args .t) (args .e) (sym (first .no-label .ensures) ∙ second .before .if1 .left)
+    (sym (second .no-label2 .ensures) ∙ c .if2 .taken)))
 
 -- Where neither test holds, the two labels can be asked about.
 own : (c : tie.Else2) → HasLabel (c .before .before .before .before .args .s) (c .before .before .before .before .args .c)
@@ -51,7 +54,9 @@ returns-3 c =
     let args = first .before .args in
     asked-meets (args .s) (args .c) (args .t) (args .e)
     (ap GrowthIs (c .growth-of .ensures)
-    ∙ rw (sym (first .no-label .ensures), second .before .if1 .left, sym (second .no-label2 .ensures), c .before .if2 .left))
+    ∙ sym
+    (growth-given (args .s) (args .c) (args .t) (args .e) (sym (first .no-label .ensures) ∙ second .before .if1 .left)
+    (sym (second .no-label2 .ensures) ∙ c .before .if2 .left)))
 
 pub how-far-spec : {M : Type 1} → statement M
 how-far-spec =

@@ -1,5 +1,5 @@
 /* Square labels for the spots of a car park level: from the bytes of a list to the bytes of its sheet in one call, with four corners or
-   above the spot only, at the greatest side or at a side of the caller's.
+   above the spot only, at the greatest side or at a side of the caller's; and how far two labels grow.
    Link target/staticlib/libsheet_call.a, which `rt staticlib sheet_call` writes. The contracts are proved in crates/sheet_call.
 
    Platform: Linux on x86-64 (x86_64-unknown-linux-gnu, the System V calling convention), for programs in C, C++ or Rust.
@@ -15,7 +15,7 @@
 extern "C" {
 #endif
 
-/* callers/run compares these seven numbers with the source, the proved programs and the shortest sheets. */
+/* callers/run compares these eight numbers with the source, the proved programs and the shortest sheets. */
 
 /* No sheet of lemoncanyon_sheet is shorter: a number below this is a refusal. */
 #define LEMONCANYON_SHORTEST 18
@@ -39,7 +39,10 @@ extern "C" {
 /* Given as a way, above the spot only: corners 1 and 2. A choice of these is good at a side where no two labels meet, crowded or not. */
 #define LEMONCANYON_ABOVE 2
 
-/* Of both calls the caller owes: `list` points to `list_length` bytes that can be read and `buffer` to `buffer_length` bytes that can be
+/* Told as a growth: never, where two labels meet at no side. */
+#define LEMONCANYON_NEVER 4294967295u
+
+/* Of the two calls that write a sheet the caller owes: `list` points to `list_length` bytes that can be read and `buffer` to `buffer_length` bytes that can be
    written; neither pointer is null, even with length 0; the two do not overlap, and nothing else changes them during the call. `way` and
    `side` may be any numbers.
    A call keeps nothing, calls only memcpy and memset, and needs at most 120 KB of stack (measured, not proved). */
@@ -84,6 +87,17 @@ size_t lemoncanyon_sheet(const uint8_t *list, size_t list_length, uint32_t way, 
     12  no good choice exists at the given side: tested after 8 and before 10
    At every side up to the one that lemoncanyon_sheet prints in the same way a good choice exists, and at no greater one. */
 size_t lemoncanyon_sheet_at(const uint8_t *list, size_t list_length, uint32_t way, uint32_t side, uint8_t *buffer, size_t buffer_length);
+
+/* Tells how far two labels grow: the label at corner1 of the site (x1, y1) and the label at corner2 of the site (x2, y2), places in units
+   and corners as on a sheet. Any numbers may be given. The caller owes that `growth` points to a number that can be written and that
+   nothing else changes during the call.
+
+   0: `*growth` is the greatest side, in half units, at which the two labels do not meet, from 0 to 20,000; they meet at every greater
+   side, whole or fraction, and at no other. Or it is LEMONCANYON_NEVER: they meet at no side, since along x or along y they face away from
+   each other. One place given twice gives 0, at whatever corners. Whichever label is named first, the answer is the same. It is what the
+   program `grow` writes.
+   3: a place is outside the range, 0 to 10,000, or a corner is not 1 to 4. `*growth` is as it came. */
+uint32_t lemoncanyon_growth(uint32_t x1, uint32_t y1, uint32_t corner1, uint32_t x2, uint32_t y2, uint32_t corner2, uint32_t *growth);
 
 #ifdef __cplusplus
 }

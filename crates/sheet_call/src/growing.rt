@@ -47,12 +47,7 @@ pub extern "C" fn lemoncanyon_growth(
         ≡ growthLeft (growthAsked (placeAt x1 y1) corner1 (placeAt x2 y2) corner2) (now (growth .entry)) ⌝ }
     ensures told { λ r. ⌜ GrowthCalled (placeAt x1 y1) corner1 (placeAt x2 y2) corner2 (now (growth .entry)) r (now (growth .exit)) ⌝ }
 {
-    let asked = how_far(
-        place_at(x1, y1),
-        corner1,
-        place_at(x2, y2),
-        corner2,
-    );
+    let asked = how_far(place_at(x1, y1), corner1, place_at(x2, y2), corner2);
     match asked {
         AskedGrowth::GrowthIs(told) => {
             *growth = number_for(told);

@@ -32,9 +32,11 @@ returns-3 c =
     let past-y = c .before in
     let past-x = past-y .before .before in
     let args = past-x .before .before .args in
-    rw (le-leb (args .s .x .0) greatestCoordinate (past-x .if1 .left),
+    rw (
+      le-leb (args .s .x .0) greatestCoordinate (past-x .if1 .left),
       le-leb (args .s .y .0) greatestCoordinate (past-y .if2 .left),
-      lt-leb 1 (args .c) (c .if3 .taken))
+      lt-leb 1 (args .c) (c .if3 .taken),
+    )
 
 cast-result : tie.Need-cast-result
 cast-result c = search needs
@@ -44,9 +46,11 @@ returns-4 c =
     let past-y = c .before in
     let past-x = past-y .before .before in
     let args = past-x .before .before .args in
-    rw (le-leb (args .s .x .0) greatestCoordinate (past-x .if1 .left),
+    rw (
+      le-leb (args .s .x .0) greatestCoordinate (past-x .if1 .left),
       le-leb (args .s .y .0) greatestCoordinate (past-y .if2 .left),
-      le-leb 1 (args .c) (c .if3 .left)) (above-4 (args .c))
+      le-leb 1 (args .c) (c .if3 .left),
+    ) (above-4 (args .c))
 
 pub no-label-spec : {M : Type 1} → statement M
 no-label-spec = tie.close (tie.spec returns returns-2 returns-3 cast-result returns-4)

@@ -1,7 +1,6 @@
 -- What six words ask for: x, y and corner of one label, then of the other.
 -- Assumes nothing.
 use mathlib.Core.Bool.{true, false}
-use mathlib.Core.List.{List}
 use mathlib.Core.Option.{Option}
 use Prim.Native.Nat.{ℕ}
 use Rattle.desk.specs.declared.Word.{Word}

@@ -1,12 +1,9 @@
 -- Laws of `Asked`: the answer by the tests, what it tells, and that this is told in one way.
 -- Assumes nothing.
-use mathlib.Core.Path.{_≡_, refl, sym, ap, _∙_}
+use mathlib.Core.Path.{_≡_, refl, sym, ap}
 use mathlib.Core.Bool.{Bool, true, false, not, _||_}
 use mathlib.Core.List.{List, [], _∷_}
-use mathlib.Core.Option.{Option, none, some}
 use Prim.Native.Nat.{ℕ, _≤_}
-use native.Mathlib.Omega.{arith}
-use borrow.Author.Tests.{ne-eqb}
 use Rattle.placing.specs.declared.units.Growth.{Growth}
 use Rattle.placing.specs.declared.units.Place.{Place}
 use Rattle.placing.specs.rules.Units.{greatestCoordinate}
@@ -18,9 +15,8 @@ use Rattle.placing.specs.deciding.Tests.{le-decides, both-decide}
 use Rattle.placing.specs.theorems.Growth.{grows-to, grows-one, meet-beyond, same-place}
 use Rattle.plan.specs.declared.refusal.Refusal.{Refusal}
 use Rattle.plan.specs.declared.refusal.Refusal.the-variants.{BadNumber}
-use Rattle.plan.specs.rules.Refusal.{numberOf, Test, _gives_, firstRefusal, refusalNumber, numberBy, unless, afterTests}
+use Rattle.plan.specs.rules.Refusal.{numberOf, Test, _gives_, numberBy, afterTests}
 use Rattle.plan.specs.calls.Answers.{carriedAt}
-use Rattle.plan.specs.theorems.Tables.{number-some}
 use Rattle.growth.specs.declared.AskedGrowth.{AskedGrowth}
 use Rattle.growth.specs.declared.AskedGrowth.the-variants.{GrowthIs, NoGrowth}
 use Rattle.growth.specs.Asked.{

@@ -1,6 +1,5 @@
 -- The call that tells how far two labels grow: what it gives and leaves for all numbers, over the definitions of crate growth.
 -- Assumes nothing.
-use mathlib.Core.Path.{_≡_}
 use mathlib.Core.Bool.{true, false}
 use Prim.Native.Nat.{ℕ}
 use lib.Dec.{eqb}

@@ -1,6 +1,6 @@
 -- `placing::geometry::growth` meets its contract: along x and along y.
 -- Assumes nothing.
-use mathlib.Core.Path.{_≡_, ap₂, _∙_}
+use mathlib.Core.Path.{ap₂, _∙_}
 use borrow.Author.Needs.{needs}
 use Rattle.placing.specs.deciding.Growth.{furtherOf}
 use Rattle.placing.proofs.geometry.growth.Statement.{statement}

@@ -3,7 +3,11 @@
 use mathlib.Core.Path.{_≡_, refl, sym, ap}
 use mathlib.Core.Bool.{Bool, true, false, not, _||_}
 use mathlib.Core.List.{List, [], _∷_}
-use Prim.Native.Nat.{ℕ, _≤_}
+use Prim.Native.Nat.{ℕ, _≤_, _<_}
+use native.Mathlib.Decide.{decLe}
+use native.Mathlib.Omega.{arith}
+use lib.Dec.{leb, ltb}
+use borrow.Author.Tests.{le-leb, lt-leb, le-ltb, lt-ltb}
 use Rattle.placing.specs.declared.units.Growth.{Growth}
 use Rattle.placing.specs.declared.units.Place.{Place}
 use Rattle.placing.specs.rules.Units.{greatestCoordinate}
@@ -31,6 +35,14 @@ use Rattle.growth.specs.Asked.{
   told,
   told-3,
 }
+
+-- A number is above a bound where it is not up to it.
+pub above-not : (most n : ℕ) → ltb most n ≡ not (leb n most)
+above-not most n = go (decLe n most)
+  where
+    go : Dec (n ≤ most) → ltb most n ≡ not (leb n most)
+    go (yes up-to) = rw (le-leb n most up-to, le-ltb most n up-to)
+    go (no above) = let more : most < n = omega arith in rw (lt-leb n most more, lt-ltb most n more)
 
 -- The tests decide whether there is a label to be asked about.
 pub label-decides : (s : Place) (c : ℕ) → Decides (not (noLabel s c)) (HasLabel s c)

@@ -9,7 +9,7 @@ ghost use Rattle.placing.specs.rules.Growth.{growthNumber};
 ghost use Rattle.placing.specs.deciding.Growth.{growthOf};
 ghost use Rattle.plan.specs.rules.Refusal.{numberBy};
 ghost use Rattle.plan.specs.calls.Answers.{carriedAt};
-ghost use Rattle.growth.specs.Asked.{noLabel, growthTests, growthAskedNumber, growthCarried, growthAsked, GrowthTold};
+ghost use Rattle.growth.specs.Asked.{outsideRange, noLabel, growthTests, growthAskedNumber, growthCarried, growthAsked, GrowthTold};
 
 // What comes of asking how far two labels grow.
 pub enum AskedGrowth {
@@ -17,14 +17,21 @@ pub enum AskedGrowth {
     NoGrowth(Refusal),
 }
 
-// There is no label at corner `c` of `s` to be asked about: the place is outside the range, or the corner is not 1 to 4.
-fn no_label(s: Place, c: u32) -> bool
-    ensures { λ r. ⌜ r ≡ noLabel s c ⌝ }
+// The place is outside the range.
+fn outside_range(s: Place) -> bool
+    ensures { λ r. ⌜ r ≡ outsideRange s ⌝ }
 {
     if s.x.0 > Limits::COORDINATE {
         return true;
     }
-    if s.y.0 > Limits::COORDINATE {
+    s.y.0 > Limits::COORDINATE
+}
+
+// There is no label at corner `c` of `s` to be asked about: the place is outside the range, or the corner is not 1 to 4.
+fn no_label(s: Place, c: u32) -> bool
+    ensures { λ r. ⌜ r ≡ noLabel s c ⌝ }
+{
+    if outside_range(s) {
         return true;
     }
     if c < 1 {

@@ -1,6 +1,6 @@
 /* How far two labels grow, over the static library. With six words (x, y and corner of one label, then of the other) it writes what the
    program `grow` writes. With no word, or with a number that is added to every answer to see that this is told, it compares the answers
-   with the picture: the labels are drawn, and it is looked for a point that both cover. The exit status is 0 where all are right. */
+   with the picture: the labels are drawn, and a point is looked for that both cover. The exit status is 0 where all are right. */
 #include <stdio.h>
 #include <stdlib.h>
 

@@ -42,10 +42,10 @@ extern "C" {
 /* Told as a growth: never, where two labels meet at no side. */
 #define LEMONCANYON_NEVER 4294967295u
 
-/* Of the two calls that write a sheet the caller owes: `list` points to `list_length` bytes that can be read and `buffer` to `buffer_length` bytes that can be
-   written; neither pointer is null, even with length 0; the two do not overlap, and nothing else changes them during the call. `way` and
-   `side` may be any numbers.
-   A call keeps nothing, calls only memcpy and memset, and needs at most 120 KB of stack (measured, not proved). */
+/* A call keeps nothing, calls only memcpy and memset, and needs at most 120 KB of stack (measured, not proved).
+   Of the two calls that write a sheet the caller owes: `list` points to `list_length` bytes that can be read and `buffer` to
+   `buffer_length` bytes that can be written; neither pointer is null, even with length 0; the two do not overlap, and nothing else changes
+   them during the call. `way` and `side` may be any numbers. */
 
 /* Places the sites of a list, in the given way, at the greatest side that has a good choice, and writes its sheet.
 
@@ -89,13 +89,13 @@ size_t lemoncanyon_sheet(const uint8_t *list, size_t list_length, uint32_t way, 
 size_t lemoncanyon_sheet_at(const uint8_t *list, size_t list_length, uint32_t way, uint32_t side, uint8_t *buffer, size_t buffer_length);
 
 /* Tells how far two labels grow: the label at corner1 of the site (x1, y1) and the label at corner2 of the site (x2, y2), places in units
-   and corners as on a sheet. Any numbers may be given. The caller owes that `growth` points to a number that can be written and that
-   nothing else changes during the call.
+   and corners as on a sheet. Any numbers may be given. The caller owes that `growth` is not null and points to a number that can be
+   written and that nothing else changes during the call.
 
    0: `*growth` is the greatest side, in half units, at which the two labels do not meet, from 0 to 20,000; they meet at every greater
    side, whole or fraction, and at no other. Or it is LEMONCANYON_NEVER: they meet at no side, since along x or along y they face away from
-   each other. One place given twice gives 0, at whatever corners. Whichever label is named first, the answer is the same. It is what the
-   program `grow` writes.
+   each other. One place given twice gives 0, at whatever corners. Whichever label is named first, the answer is the same. The program
+   `grow` writes the same answer.
    3: a place is outside the range, 0 to 10,000, or a corner is not 1 to 4. `*growth` is as it came. */
 uint32_t lemoncanyon_growth(uint32_t x1, uint32_t y1, uint32_t corner1, uint32_t x2, uint32_t y2, uint32_t corner2, uint32_t *growth);
 

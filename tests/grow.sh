@@ -68,8 +68,9 @@ for d in $distances; do
     timeout 10 "$grow" 0 6 2 "$d" 6 1
     timeout 10 "$grow" 6 0 2 6 "$d" 1
     timeout 10 "$grow" 6 0 2 6 "$d" 3
+    timeout 10 "$grow" 6 0 3 6 "$d" 2
 done >"$made/out" 2>"$made/err"
-for d in $distances; do printf '%s\n' "$((2 * d))" "$d" never "$((2 * d))" "$d"; done >"$made/should"
+for d in $distances; do printf '%s\n' "$((2 * d))" "$d" never "$((2 * d))" "$d" never; done >"$made/should"
 judge 'grow, distances' "$made/should" "$made/nothing"
 
 # ---- Words outside the rules, each in the place of every coordinate and of every corner

@@ -2,12 +2,13 @@
 -- Assumes nothing.
 use mathlib.Core.Bool.{true, false}
 use mathlib.Core.Option.{Option}
-use Prim.Native.Nat.{ℕ}
+use Prim.Native.Nat.{ℕ, suc}
 use Rattle.desk.specs.declared.Word.{Word}
 use Rattle.desk.specs.Words.{Counted, bytesIn}
 use Rattle.placing.specs.declared.units.Place.{Place}
+use Rattle.placing.specs.rules.Units.{greatestCoordinate}
 use Rattle.plan.specs.rules.Text.{numberIn, orZero}
-use Rattle.plan.specs.rules.List.{isCoordinate}
+use Rattle.plan.specs.rules.List.{placeAt, isCoordinate}
 use Rattle.growth.specs.declared.AskedGrowth.{AskedGrowth}
 use Rattle.growth.specs.Asked.{growthAsked}
 use Rattle.grow.specs.declared.asked.LabelWords.{LabelWords}
@@ -20,14 +21,17 @@ pub record Words (label : LabelWords) : Type 0 where
 
 -- The number that a text writes, as in a list. One above 10,000 is no coordinate and no corner, and 10,001 stands for it; so it does for a
 -- text that writes none.
+abbrev pub outside : ℕ
+outside = suc greatestCoordinate
+
 abbrev pub numberOr : Option ℕ → ℕ
-numberOr number = elim (isCoordinate number) [ true ↦ orZero number | false ↦ 10001 ]
+numberOr number = elim (isCoordinate number) [ true ↦ orZero number | false ↦ outside ]
 
 abbrev pub numberGiven : Word → ℕ
 numberGiven word = numberOr (numberIn (bytesIn word))
 
 abbrev pub placeGiven : LabelWords → Place
-placeGiven label = record { x = record { 0 = numberGiven (label .x) }; y = record { 0 = numberGiven (label .y) } }
+placeGiven label = placeAt (numberGiven (label .x)) (numberGiven (label .y))
 
 abbrev pub growthByWords : LabelWords → LabelWords → AskedGrowth
 growthByWords own other = growthAsked (placeGiven own) (numberGiven (own .corner)) (placeGiven other) (numberGiven (other .corner))

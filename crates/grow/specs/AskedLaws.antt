@@ -10,13 +10,12 @@ use native.Mathlib.Decide.{decLe}
 use native.Mathlib.Omega.{arith}
 use borrow.Author.Tests.{le-leb, lt-leb}
 use Rattle.desk.specs.Words.{bytesIn}
-use Rattle.placing.specs.declared.units.Place.{Place}
 use Rattle.placing.specs.rules.Units.{greatestCoordinate}
 use Rattle.plan.specs.declared.number.Coordinate.{Coordinate}
 use Rattle.plan.specs.declared.number.Coordinate.the-variants.{At, Nowhere}
 use Rattle.plan.specs.declared.refusal.Refusal.the-variants.{BadNumber}
 use Rattle.plan.specs.rules.Text.{decimal, numberIn, orZero}
-use Rattle.plan.specs.rules.List.{isCoordinate}
+use Rattle.plan.specs.rules.List.{placeAt, isCoordinate}
 use Rattle.plan.specs.calls.Given.{coordinateRead}
 use Rattle.plan.specs.theorems.Text.{number-decimal}
 use Rattle.growth.specs.declared.AskedGrowth.{AskedGrowth}
@@ -24,19 +23,19 @@ use Rattle.growth.specs.declared.AskedGrowth.the-variants.{NoGrowth}
 use Rattle.growth.specs.Asked.{growthAsked, HasLabel, GrowthTold, told, told-3}
 use Rattle.growth.specs.AskedLaws.{asked-tells, told-one}
 use Rattle.grow.specs.declared.asked.LabelWords.{LabelWords}
-use Rattle.grow.specs.Asked.{numberOr, numberGiven, placeGiven, growthByWords}
+use Rattle.grow.specs.Asked.{outside, numberOr, numberGiven, placeGiven, growthByWords}
 
--- The number of a coordinate that is read, 10,001 where none is.
+-- The number of a coordinate that is read, or the one that stands for none.
 abbrev pub numberFrom : Coordinate → ℕ
 numberFrom (At units) = units .0
-numberFrom Nowhere = 10001
+numberFrom Nowhere = outside
 
 pub number-from : (number : Option ℕ) → numberFrom (coordinateRead number) ≡ numberOr number
 number-from number = go (isCoordinate number)
   where
     go : (inside : Bool)
         → numberFrom (elim inside [ true ↦ At (record { 0 = orZero number }) | false ↦ Nowhere ])
-        ≡ elim inside [ true ↦ orZero number | false ↦ 10001 ]
+        ≡ elim inside [ true ↦ orZero number | false ↦ outside ]
     go true = refl
     go false = refl
 
@@ -51,7 +50,7 @@ inside-back n given = go (decLe n greatestCoordinate)
     go (yes small) = inside small
     go (no large) =
         let over : greatestCoordinate < n = omega arith in
-        let is : numberOr (some n) ≡ 10001 = rw (lt-leb n greatestCoordinate over, numberOr) in
+        let is : numberOr (some n) ≡ outside = rw (lt-leb n greatestCoordinate over, numberOr) in
         absurd (omega arith)
 
 -- Three words that write these numbers.
@@ -59,9 +58,6 @@ pub record Writes (label : LabelWords) (x y corner : ℕ) : Type 0 where
   pub x-written : bytesIn (label .x) ≡ decimal x
   pub y-written : bytesIn (label .y) ≡ decimal y
   pub corner-written : bytesIn (label .corner) ≡ decimal corner
-
-abbrev placeAt : ℕ → ℕ → Place
-placeAt x y = record { x = record { 0 = x }; y = record { 0 = y } }
 
 -- They give these numbers, where those make a label ..
 written-number : {text : List ℕ} (n : ℕ) → text ≡ decimal n → numberOr (numberIn text) ≡ numberOr (some n)

@@ -15,7 +15,7 @@ fn tell_word(number: usize, rule: &[u8]) {
     tell(rule);
 }
 
-// Tells of a word that is no coordinate. Whether it is one that is told of.
+// Tells of a word if it is no coordinate, and says whether it did.
 fn tell_coordinate(number: usize, word: Word) -> bool
     requires { ⌜ Counted word ⌝ }
 {
@@ -29,7 +29,8 @@ fn tell_coordinate(number: usize, word: Word) -> bool
     true
 }
 
-// Tells of the first word of a label that is outside the rules, where there is one. So many words stand before the label's.
+// Tells of the first word of a label that is outside the rules, if there is one, and says whether it did. So many words stand before
+// the label's.
 fn tell_label(before: usize, label: LabelWords) -> bool
     requires { ⌜ (before ≤ 3) × Words label ⌝ }
 {

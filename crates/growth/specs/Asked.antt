@@ -11,6 +11,7 @@ use Rattle.placing.specs.rules.Units.{greatestCoordinate, OnPlan}
 use Rattle.placing.specs.rules.Corner.{Corner}
 use Rattle.placing.specs.rules.Growth.{Grows, growthNumber}
 use Rattle.placing.specs.deciding.Growth.{growthOf}
+use Rattle.placing.specs.deciding.Tests.{cornerTest}
 use Rattle.plan.specs.declared.refusal.Refusal.the-variants.{BadNumber}
 use Rattle.plan.specs.rules.Refusal.{numberOf, Test, _gives_, Result, accepted, refused, afterTests}
 use Rattle.growth.specs.declared.AskedGrowth.{AskedGrowth}
@@ -18,12 +19,13 @@ use Rattle.growth.specs.declared.AskedGrowth.the-variants.{GrowthIs, NoG
 
 -- ---- what is refused
 
--- "A place outside the range or a corner not 1 to 4": there is no label at corner c of s to be asked about.
+-- "A place outside the range": one of its coordinates is.
 abbrev pub outsideRange : Place → Bool
 outsideRange s = not (leb (s .x .0) greatestCoordinate && leb (s .y .0) greatestCoordinate)
 
+-- "A place outside the range or a corner not 1 to 4": there is no label at corner c of s to be asked about.
 abbrev pub noLabel : Place → ℕ → Bool
-noLabel s c = outsideRange s || not (leb 1 c && leb c 4)
+noLabel s c = outsideRange s || not (cornerTest c)
 
 -- It "gives 3".
 abbrev pub growthTests : Place → ℕ → Place → ℕ → List Test

@@ -11,12 +11,13 @@ use borrow.Author.Tests.{le-leb, lt-leb, le-ltb, lt-ltb}
 use Rattle.placing.specs.declared.units.Growth.{Growth}
 use Rattle.placing.specs.declared.units.Place.{Place}
 use Rattle.placing.specs.rules.Units.{greatestCoordinate}
+use Rattle.placing.specs.rules.Corner.{Corner}
 use Rattle.placing.specs.rules.Label.{Meet}
 use Rattle.placing.specs.rules.Growth.{growthNumber, Exceeds}
 use Rattle.placing.specs.deciding.Growth.{upTo, growthOf}
 use Rattle.placing.specs.deciding.Decides.{Decides, decides-yes, decides-no}
-use Rattle.placing.specs.deciding.Tests.{le-decides, both-decide}
-use Rattle.placing.specs.theorems.Growth.{grows-to, grows-one, meet-beyond, same-place}
+use Rattle.placing.specs.deciding.Tests.{le-decides, both-decide, corner-decides}
+use Rattle.placing.specs.theorems.Growth.{grows-to, grows-one, grows-turned, meet-beyond, same-place}
 use Rattle.plan.specs.declared.refusal.Refusal.{Refusal}
 use Rattle.plan.specs.declared.refusal.Refusal.the-variants.{BadNumber}
 use Rattle.plan.specs.rules.Refusal.{numberOf, Test, _gives_, numberBy, afterTests}
@@ -47,16 +48,14 @@ above-not most n = go (decLe n most)
 -- The tests decide whether there is a label to be asked about.
 pub label-decides : (s : Place) (c : ℕ) → Decides (not (noLabel s c)) (HasLabel s c)
 label-decides s c =
-    go (both-decide (le-decides (s .x .0) greatestCoordinate) (le-decides (s .y .0) greatestCoordinate))
-    (both-decide (le-decides 1 c) (le-decides c 4))
+    go (both-decide (le-decides (s .x .0) greatestCoordinate) (le-decides (s .y .0) greatestCoordinate)) (corner-decides c)
   where
-    go : {a b : Bool} → Decides a ((s .x .0 ≤ greatestCoordinate) × (s .y .0 ≤ greatestCoordinate)) → Decides b ((1 ≤ c) × (c ≤ 4))
+    go : {a b : Bool} → Decides a ((s .x .0 ≤ greatestCoordinate) × (s .y .0 ≤ greatestCoordinate)) → Decides b (Corner c)
         → Decides (not (not a || not b)) (HasLabel s c)
     go {a = true} {b = true} inside corner =
         let on = inside .yes-holds refl in
-        let is = corner .yes-holds refl in
-        decides-yes (record { on-plan = record { on-x = on .0; on-y = on .1 }; corner = record { least = is .0; most = is .1 } })
-    go {a = true} {b = false} inside corner = decides-no (λ label. corner .no-fails refl (label .corner .least, label .corner .most))
+        decides-yes (record { on-plan = record { on-x = on .0; on-y = on .1 }; corner = corner .yes-holds refl })
+    go {a = true} {b = false} inside corner = decides-no (λ label. corner .no-fails refl (label .corner))
     go {a = false} inside corner = decides-no (λ label. inside .no-fails refl (label .on-plan .on-x, label .on-plan .on-y))
 
 pub has-label : (s : Place) (c : ℕ) → noLabel s c ≡ false → HasLabel s c
@@ -127,3 +126,11 @@ told-refused (told-3 refused) = (refl, refused)
 -- "One place given twice gives 0", at whatever corners.
 pub twice-0 : {s : Place} {c e : ℕ} {r : AskedGrowth} → HasLabel s c → HasLabel s e → GrowthTold s c s e r → r ≡ GrowthIs (upTo 0)
 twice-0 {s} {c} {e} own beside tells = told-one tells (told own beside (rw (sym (same-place s c e)) (grows-to s c s e)))
+
+-- Whichever label is named first.
+pub asked-symmetric : (s : Place) (c : ℕ) (t : Place) (e : ℕ) → growthAsked s c t e ≡ growthAsked t e s c
+asked-symmetric s c t e = told-one (asked-tells s c t e) (turned (asked-tells t e s c))
+  where
+    turned : {r : AskedGrowth} → GrowthTold t e s c r → GrowthTold s c t e r
+    turned (told own beside grows) = told beside own (grows-turned grows)
+    turned (told-3 refused) = told-3 (λ has has-other. refused has-other has)

@@ -8,29 +8,26 @@ use Rattle.placing.specs.declared.units.Growth.the-variants.{Never}
 use Rattle.placing.specs.declared.units.Place.{Place}
 use Rattle.placing.specs.deciding.Growth.{upTo}
 use Rattle.plan.specs.declared.refusal.Refusal.the-variants.{BadNumber}
+use Rattle.plan.specs.rules.List.{placeAt}
 use Rattle.growth.specs.declared.AskedGrowth.{AskedGrowth}
 use Rattle.growth.specs.declared.AskedGrowth.the-variants.{GrowthIs, NoGrowth}
 use Rattle.growth.specs.Asked.{growthAsked}
 
 -- Two labels, each with its place and its corner, and what is told of them.
-pub record Label : Type 0 where
-  pub at-x : ℕ
-  pub at-y : ℕ
+pub record LabelAt : Type 0 where
+  pub place : Place
   pub corner : ℕ
 
 pub record Row : Type 0 where
-  pub own : Label
-  pub other : Label
+  pub own : LabelAt
+  pub other : LabelAt
   pub growth : AskedGrowth
 
-abbrev label : (x y corner : ℕ) → Label
-label x y corner = record { at-x = x; at-y = y; corner = corner }
-
-abbrev pub placeOf : Label → Place
-placeOf l = record { x = record { 0 = l .at-x }; y = record { 0 = l .at-y } }
+abbrev label : (x y corner : ℕ) → LabelAt
+label x y corner = record { place = placeAt x y; corner = corner }
 
 infix 68 _with_tells_
-abbrev _with_tells_ : Label → Label → AskedGrowth → Row
+abbrev _with_tells_ : LabelAt → LabelAt → AskedGrowth → Row
 _with_tells_ own other growth = record { own = own; other = other; growth = growth }
 
 abbrev upToSide : ℕ → AskedGrowth
@@ -66,7 +63,7 @@ rows =
 
 -- A row tells what the call hands back.
 abbrev pub Right : Row → Type 0
-Right row = growthAsked (placeOf (row .own)) (row .own .corner) (placeOf (row .other)) (row .other .corner) ≡ row .growth
+Right row = growthAsked (row .own .place) (row .own .corner) (row .other .place) (row .other .corner) ≡ row .growth
 
 abbrev pub AllRight : List Row → Type 0
 AllRight [] = Unit {0}

@@ -12,6 +12,7 @@ ghost use Prim.Native.Nat.{ℕ, _≤_};
 ghost use Rattle.placing.specs.rules.Units.{greatestCoordinate, inHalfUnits, dist, OnPlan};
 ghost use Rattle.placing.specs.rules.Corner.{Corner, directionsOf};
 ghost use Rattle.placing.specs.rules.Label.{Onward};
+ghost use Rattle.placing.specs.rules.Growth.{growthNumber};
 ghost use Rattle.placing.specs.deciding.Decides.{Decides};
 ghost use Rattle.placing.specs.deciding.Growth.{growthAlong, furtherOf, growthOf};
 ghost use Rattle.placing.specs.code.Reach.{LiesToward, distanceBetween};
@@ -72,7 +73,7 @@ fn growth_along(d: Direction, a: Units, e: Direction, b: Units) -> Growth
         return Growth::UpTo(apart);
     }
     if onward(d, a, b) {
-        Growth::UpTo(HalfUnits(apart.0 / 2))
+        Growth::UpTo(apart.halved())
     } else {
         Growth::Never
     }
@@ -121,7 +122,8 @@ pub(crate) fn growth(own: Label, other: Label) -> Growth
 // The pair test for two places and two corners.
 pub fn growth_of(s: Place, c: u8, t: Place, e: u8) -> Growth
     requires { ⌜ OnPlan s × Corner c × OnPlan t × Corner e ⌝ }
-    ensures { λ r. ⌜ r ≡ growthOf s c t e ⌝ }
+    ensures growth { λ r. ⌜ r ≡ growthOf s c t e ⌝ }
+    ensures value { λ r. ⌜ growthNumber r ≡ growthNumber (growthOf s c t e) ⌝ }
 {
     let own = Label {
         site: s,

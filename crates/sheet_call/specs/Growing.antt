@@ -12,9 +12,6 @@ use Rattle.growth.specs.declared.AskedGrowth.{AskedGrowth}
 use Rattle.growth.specs.declared.AskedGrowth.the-variants.{GrowthIs, NoGrowth}
 use Rattle.growth.specs.Asked.{HasLabel}
 
-abbrev pub placeAt : (x y : ℕ) → Place
-placeAt x y = record { x = record { 0 = x }; y = record { 0 = y } }
-
 -- ---- the lent number
 
 -- The number that stands for never, the greatest of 32 bits; a growth that is a number stands for itself.

@@ -6,8 +6,9 @@ use placing::units::Place;
 use placing::units::Units;
 use plan::refusal::number_of;
 ghost use mathlib.Core.Path.{_≡_};
+ghost use Rattle.plan.specs.rules.List.{placeAt};
 ghost use Rattle.growth.specs.Asked.{growthAskedNumber, growthAsked};
-ghost use Rattle.sheet_call.specs.Growing.{placeAt, numberFor, growthLeft, GrowthCalled};
+ghost use Rattle.sheet_call.specs.Growing.{numberFor, growthLeft, GrowthCalled};
 
 // The number that stands for never.
 const NEVER: u32 = 4_294_967_295;

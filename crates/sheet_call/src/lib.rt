@@ -1,6 +1,6 @@
 // For callers in C and Rust: from the bytes of a list to the bytes of its sheet in one call, by a way of placing, at the side found or at
 // a given side.
-// And how far two labels grow. `callers/lemoncanyon.h` declares the calls.
+// A third call tells how far two labels grow. `callers/lemoncanyon.h` declares the calls.
 mod growing;
 
 use placing::units::HalfUnits;

@@ -53,7 +53,7 @@ returns-3 c =
     let first = second .before .before in
     let args = first .before .args in
     asked-meets (args .s) (args .c) (args .t) (args .e)
-    (ap GrowthIs (c .growth-of .ensures)
+    (ap GrowthIs (c .growth-of .ensures .0)
     ∙ sym
     (growth-given (args .s) (args .c) (args .t) (args .e) (sym (first .no-label .ensures) ∙ second .before .if1 .left)
     (sym (second .no-label2 .ensures) ∙ c .before .if2 .left)))

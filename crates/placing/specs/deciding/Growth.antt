@@ -20,7 +20,7 @@ upTo g = UpTo (record { 0 = g })
 abbrev pub facingGrowth : (up down : ℕ) → Growth
 facingGrowth up down = elim (leb up down) [ true ↦ upTo (down - up) | false ↦ Never ]
 
--- Along one axis, of the label that goes direction d from a and the one that goes direction e from b. Same direction: 2 × |d|.
+-- Along one axis, of the label that goes direction d from a and the one that goes direction e from b. Same direction: twice the distance.
 abbrev pub growthAlong : (d : Direction) (a : ℕ) (e : Direction) (b : ℕ) → Growth
 growthAlong Up a Up b = upTo (inHalfUnits (dist a b))
 growthAlong Down a Down b = upTo (inHalfUnits (dist a b))

@@ -1,4 +1,4 @@
--- Tests for the rules of document 01 that compute, each with the law that it decides its rule.
+-- Tests for the rules that compute, each with the law that it decides its rule.
 -- Assumes nothing.
 use mathlib.Core.Path.{_≡_, refl, sym, ap, subst, _∙_}
 use mathlib.Core.Bool.{Bool, true, false, not, _&&_}
@@ -110,7 +110,7 @@ pub axes-decide : {P : Axis → Type 0} (test : Axis → Bool) → ((axis : Axis
     → Decides (bothAxes test) ((axis : Axis) → P axis)
 axes-decide {P} test d = decides-same (λ r. both P (r .0) (r .1)) (λ all. (all X, all Y)) (both-decide (d X) (d Y))
 
--- ---- the rules, in document 01's order
+-- ---- the rules, in document 01's order; whether two labels meet is tested by how far they grow (document 02, L3)
 
 -- Places with the same coordinates are the same place.
 pub place-equal : {s t : Place} → ((axis : Axis) → along axis s ≡ along axis t) → s ≡ t
@@ -167,7 +167,7 @@ onward-decides Up a b = decides-same upward up-ordered (le-decides a b)
 onward-decides Down a b = decides-same downward down-ordered (le-decides b a)
 
 -- What decides the bound on the distance decides overlap, for labels that go the same way,
-pub same-direction-decides : {answer : Bool} {p q : ℕ} {d e : Direction} {a b : ℕ} → d ≡ e → Decides answer (inHalfUnits (dist a b) * q < p)
+same-direction-decides : {answer : Bool} {p q : ℕ} {d e : Direction} {a b : ℕ} → d ≡ e → Decides answer (inHalfUnits (dist a b) * q < p)
     → Decides answer (Overlap p q d a e b)
 same-direction-decides {p = p} {q = q} {d = d} {e = e} {a = a} {b = b} same = decides-same (same-direction same) back
   where
@@ -176,7 +176,7 @@ same-direction-decides {p = p} {q = q} {d = d} {e = e} {a = a} {b = b} same = de
     back (facing is onward near) = absurd (opposite-differs d (is ∙ sym same))
 
 -- and with the order for labels that face each other.
-pub facing-decides : {answer : Bool} {p q : ℕ} {d e : Direction} {a b : ℕ} → opposite d ≡ e
+facing-decides : {answer : Bool} {p q : ℕ} {d e : Direction} {a b : ℕ} → opposite d ≡ e
     → Decides answer (Onward d a b × (dist a b * q < p)) → Decides answer (Overlap p q d a e b)
 facing-decides {p = p} {q = q} {d = d} {e = e} {a = a} {b = b} against = decides-same (λ r. facing against (r .0) (r .1)) back
   where
@@ -192,7 +192,7 @@ pub exceeds-decides : (p q : ℕ) (growth : Growth) → Decides (exceedsTest p q
 exceeds-decides p q (UpTo g) = decides-same beyond bound-exceeded (lt-decides _ _)
 exceeds-decides p q Never = decides-no (elim [ ])
 
--- Labels overlap along an axis at the sides that exceed their growth along it.
+-- A side exceeds the growth of labels in opposite directions where they face each other and it is above their distance,
 facing-exceeds : (p q up down : ℕ) → Decides (exceedsTest p q (facingGrowth up down)) ((up ≤ down) × (dist up down * q < p))
 facing-exceeds p q up down = go (leb up down) (le-decides up down)
   where
@@ -204,7 +204,8 @@ facing-exceeds p q up down = go (leb up down) (le-decides up down)
         rw same (decides-second ordered (lt-decides _ _) (λ o near. (o, near)) (λ r. r .1))
     go false d = decides-no (λ r. d .no-fails refl (r .0))
 
-pub overlap-decides : (p q : ℕ) (d : Direction) (a : ℕ) (e : Direction) (b : ℕ)
+-- so that labels overlap along an axis at the sides that exceed their growth along it.
+overlap-decides : (p q : ℕ) (d : Direction) (a : ℕ) (e : Direction) (b : ℕ)
     → Decides (exceedsTest p q (growthAlong d a e b)) (Overlap p q d a e b)
 overlap-decides p q Up a Up b = same-direction-decides refl (lt-decides _ _)
 overlap-decides p q Down a Down b = same-direction-decides refl (lt-decides _ _)
@@ -228,7 +229,7 @@ larger-decides p q {x} {y} ordered d e =
       no-fails = λ is r. e .no-fails is (r .1);
     }
 
-pub further-decides : {A B : Type 0} (p q : ℕ) (x y : Growth) → Decides (exceedsTest p q x) A → Decides (exceedsTest p q y) B
+further-decides : {A B : Type 0} (p q : ℕ) (x y : Growth) → Decides (exceedsTest p q x) A → Decides (exceedsTest p q y) B
     → Decides (exceedsTest p q (furtherOf x y)) (A × B)
 further-decides p q Never y d e = decides-no (λ r. d .no-fails refl (r .0))
 further-decides p q (UpTo x) Never d e = decides-no (λ r. e .no-fails refl (r .1))

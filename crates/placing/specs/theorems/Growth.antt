@@ -104,12 +104,9 @@ same-place s c e =
     (λ h more axis. reached-overlap (onward-same refl) (let none : dist (along axis s) (along axis s) ≡ 0 = omega arith in omega arith)))
 
 -- Whichever label is named first.
-pub growth-symmetric : (s : Place) (c : ℕ) (t : Place) (e : ℕ) → growthOf s c t e ≡ growthOf t e s c
-growth-symmetric s c t e = grows-one (grows-to s c t e) (turned (grows-to t e s c))
-  where
-    turned : {growth : Growth} → Grows t e s c growth → Grows s c t e growth
-    turned (up-to apart meets) = up-to (λ meet. apart (meet-symmetric meet)) (λ h more. meet-symmetric (meets h more))
-    turned (never none) = never (λ h meet. none h (meet-symmetric meet))
+pub grows-turned : {s : Place} {c : ℕ} {t : Place} {e : ℕ} {growth : Growth} → Grows s c t e growth → Grows t e s c growth
+grows-turned (up-to apart meets) = up-to (λ meet. apart (meet-symmetric meet)) (λ h more. meet-symmetric (meets h more))
+grows-turned (never none) = never (λ h meet. none h (meet-symmetric meet))
 
 -- Within the coordinate range labels that meet at some side meet at 20,001,
 meet-at-free : {s t : Place} {p q c e : ℕ} → OnPlan s → OnPlan t → Meet p q s c t e → Meet freeSide 1 s c t e

@@ -1,4 +1,4 @@
--- A side and a coordinate that are given as words.
+-- A side that is given as a word, and the coordinate of a number.
 -- Assumes nothing.
 use mathlib.Core.Bool.{true, false}
 use mathlib.Core.Option.{Option, some, none}
@@ -16,7 +16,7 @@ abbrev pub sideByWord : Option Side → Side
 sideByWord none = Number (record { 0 = 0 })
 sideByWord (some side) = elim (isSide side) [ true ↦ side | false ↦ Number (record { 0 = 0 }) ]
 
--- The coordinate that is written, where one is: a number, in range.
+-- The coordinate of a number that is written or given, where it is one: a number, in range.
 abbrev pub coordinateRead : Option ℕ → Coordinate
 coordinateRead number = elim (isCoordinate number) [ true ↦ At (record { 0 = orZero number }) | false ↦ Nowhere ]
 

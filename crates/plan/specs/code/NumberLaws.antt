@@ -19,9 +19,8 @@ use Rattle.plan.specs.declared.number.NumberRead.the-variants.{Is, NoNum
 use Rattle.plan.specs.declared.number.Coordinate.the-variants.{At, Nowhere}
 use Rattle.plan.specs.rules.Text.{sameBytes, zeroDigit, digitsAfter, numberIn}
 use Rattle.plan.specs.rules.Sheet.{freeWord, numberedSide, sideIn}
-use Rattle.plan.specs.calls.Given.{sideByWord}
+use Rattle.plan.specs.calls.Given.{sideByWord, coordinateRead}
 use Rattle.plan.specs.code.NumberRead.{numberRead, coordinateOf, sideOf}
-use Rattle.plan.specs.calls.Given.{coordinateRead}
 
 -- A digit is appended,
 digit-last : (n b : ℕ) → zeroDigit ≤ b → b ≤ 57 → digitsAfter n (b ∷ []) ≡ some (n * 10 + (b - zeroDigit))

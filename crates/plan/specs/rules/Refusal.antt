@@ -14,7 +14,8 @@ abbrev pub numberOf : Refusal → ℕ
 numberOf BadLine = 1
 -- a name outside the rule
 numberOf BadName = 2
--- a coordinate outside the rule; of document 02, a side outside the range; in a call from C, which no document has, a number that is no way
+-- a coordinate outside the rule; of document 02, a side outside the range, a place outside the range or a corner not 1 to 4; in a call from
+-- C, which no document has, a number that is no way
 numberOf BadNumber = 3
 -- a name already in the plan
 numberOf NameTaken = 4

@@ -2,7 +2,6 @@
 -- Assumes nothing.
 use mathlib.Core.Path.{_≡_, sym, _∙_}
 use mathlib.Core.Logic.{⊎-elim}
-use Prim.Native.Nat.{_/_}
 use native.Mathlib.Omega.{arith}
 use Rattle.placing.specs.declared.corner.Direction.{Direction}
 use Rattle.placing.specs.rules.Corner.{opposite}
@@ -35,13 +34,16 @@ returns c =
 onward-requires : tie.Need-onward-requires
 onward-requires c κs = search needs
 
+halved-requires : tie.Need-halved-requires
+halved-requires c κs = search needs
+
 returns-2 : tie.Need-returns-2
 returns-2 c =
     let tested = c .before .before in
     let opposed = tested .before .before in
     let at-distance = opposed .before in
     let args = at-distance .before .args in
-    let half : at-distance .distance .result .0 / 2 ≡ dist (args .a .0) (args .b .0) = omega (arith, at-distance .distance .ensures) in
+    let half : c .halved .result .0 ≡ dist (args .a .0) (args .b .0) = omega (arith, at-distance .distance .ensures, c .halved .ensures) in
     (λ i. upTo (half i))
     ∙ sym (along-facing (args .a .0) (args .b .0)
     (against (opposed .same-direction .ensures .no-fails (tested .before .if1 .left)))
@@ -64,5 +66,6 @@ growth-along-spec =
     same-direction-requires
     returns
     onward-requires
+    halved-requires
     returns-2
     returns-3)

@@ -4,7 +4,7 @@ use denote.Ref.{now}
 use borrow.Author.Needs.{needs}
 use Rattle.growth.specs.declared.AskedGrowth.the-variants.{GrowthIs, NoGrowth}
 use Rattle.growth.specs.Asked.{growthAsked}
-use Rattle.sheet_call.specs.Growing.{placeAt}
+use Rattle.plan.specs.rules.List.{placeAt}
 use Rattle.sheet_call.specs.GrowingLaws.{called-meets}
 use Rattle.sheet_call.proofs.growing.lemoncanyon_growth.Statement.{statement}
 use Rattle.sheet_call.proofs.growing.lemoncanyon_growth.Tie as tie

@@ -2,6 +2,7 @@
 // standard output.
 mod asked;
 mod explain;
+mod text;
 mod usage;
 mod write;
 

@@ -1,6 +1,7 @@
 /* How far two labels grow, over the static library. With six words (x, y and corner of one label, then of the other) it writes what the
-   program `grow` writes. With no word, or with a number that is added to every answer to see that this is told, it compares the answers
-   with the picture: the labels are drawn, and a point is looked for that both cover. The exit status is 0 where all are right. */
+   program `grow` writes. Otherwise it compares the answers with the picture: the labels are drawn, and a point is looked for that both
+   cover. It writes how many pairs and refusals it compared, and the exit status is 0 where all are right. To see that wrong answers are
+   told, a first word is added to every answer, and a second one is taken for the number of a refusal. */
 #include <stdio.h>
 #include <stdlib.h>
 
@@ -14,8 +15,8 @@ struct label {
     uint32_t x, y, corner;
 };
 
-static uint32_t added;
-static long compared;
+static uint32_t added, refusal = 3;
+static long compared, compared_refused;
 
 /* Offsets from the site in the label's own directions, in ticks. */
 static long right(struct label l, long x) { return l.corner == 1 || l.corner == 4 ? x - UNIT * (long)l.x : UNIT * (long)l.x - x; }
@@ -94,11 +95,12 @@ static void compare_all(const uint32_t *at, int count) {
                     compare_corners(at[i], at[j], at[k], at[l]);
 }
 
-/* Refused with 3, and the lent number as it came. */
+/* Refused, and the lent number as it came. */
 static void refused(struct label s, struct label t) {
     for (uint32_t lent = 0; lent < 4; lent++) {
         uint32_t growth = lent - 2;
-        if (lemoncanyon_growth(s.x, s.y, s.corner, t.x, t.y, t.corner, &growth) != 3)
+        compared_refused++;
+        if (lemoncanyon_growth(s.x, s.y, s.corner, t.x, t.y, t.corner, &growth) != refusal)
             wrong(s, t, "it is not refused with 3");
         if (growth != lent - 2)
             wrong(s, t, "the lent number is another");
@@ -117,22 +119,36 @@ static void compare_refused(void) {
         bad = good, bad.corner = no_corner[i], refused(bad, good), refused(good, bad), refused(bad, bad);
 }
 
+/* Each coordinate in each of its four places. */
+static void compare_each(void) {
+    for (uint32_t v = 0; v <= 10000; v++) {
+        uint32_t c = 1 + v % 4, e = 1 + v / 4 % 4;
+        compare((struct label){v, 1234, c}, (struct label){5000, 6000, e});
+        compare((struct label){4321, v, c}, (struct label){5000, 6000, e});
+        compare((struct label){5000, 6000, e}, (struct label){v, 77, c});
+        compare((struct label){5000, 6000, e}, (struct label){9999, v, c});
+    }
+}
+
 static uint32_t number(const char *word) { return strtoul(word, 0, 10); }
 
 int main(int count, char **words) {
     if (count == 7) {
         uint32_t growth;
-        uint32_t refusal = lemoncanyon_growth(number(words[1]), number(words[2]), number(words[3]), number(words[4]), number(words[5]),
-                                              number(words[6]), &growth);
-        if (refusal != 0)
-            printf("refused\t%u\n", refusal);
+        uint32_t told = lemoncanyon_growth(number(words[1]), number(words[2]), number(words[3]), number(words[4]), number(words[5]),
+                                           number(words[6]), &growth);
+        if (told != 0)
+            printf("refused\t%u\n", told);
         else if (growth == LEMONCANYON_NEVER)
             puts("never");
         else
             printf("%u\n", growth);
         return 0;
     }
-    added = count == 2 ? number(words[1]) : 0;
+    if (count > 1)
+        added = number(words[1]);
+    if (count > 2)
+        refusal = number(words[2]);
     uint32_t small[] = {0, 1, 2, 3, 4, 5}, edges[] = {0, 1, 2, 4999, 5000, 9998, 9999, 10000};
     compare_all(small, 6);
     compare_all(edges, 8);
@@ -142,7 +158,8 @@ int main(int count, char **words) {
             drawn = drawn * 1664525u + 1013904223u, at[k] = (drawn >> 8) % 10001;
         compare_corners(at[0], at[1], at[2], at[3]);
     }
+    compare_each();
     compare_refused();
-    printf("%ld\n", compared);
+    printf("%ld pairs, %ld refusals\n", compared, compared_refused);
     return 0;
 }

@@ -61,7 +61,7 @@ judge 'grow, one place twice' "$made/should" "$made/nothing"
 
 # ---- Over one distance along x: labels that go the same way grow to twice it, labels that face each other to it, and others never meet;
 # and along y likewise
-distances=$(seq 1 37 10000; echo 9 10 99 100 999 1000 4999 5000 9999 10000)
+distances=$(awk 'BEGIN { for (d = 1; d <= 10000; d += 1 + (7 * d) % 61) print d }'; echo 9 10 99 100 999 1000 4999 5000 9999 10000)
 for d in $distances; do
     timeout 10 "$grow" 0 6 1 "$d" 6 4
     timeout 10 "$grow" 0 6 1 "$d" 6 2
@@ -73,8 +73,24 @@ done >"$made/out" 2>"$made/err"
 for d in $distances; do printf '%s\n' "$((2 * d))" "$d" never "$((2 * d))" "$d" never; done >"$made/should"
 judge 'grow, distances' "$made/should" "$made/nothing"
 
+# ---- Numbers of every length in every word, at all corners, against the rule by another hand: the distance along an axis, twice where the
+# labels go the same way, none where they face away
+awk 'function number() { return int(rand() * 10 ^ int(1 + 5 * rand())) % 10001 }
+    BEGIN { srand(3); for (i = 0; i < 800; i++) print number(), number(), 1 + i % 4, number(), number(), 1 + int(i / 4) % 4 }' >"$made/words"
+while read -r words; do timeout 10 "$grow" $words; done <"$made/words" >"$made/out" 2>"$made/err"
+awk 'function along(a, a_up, b, b_up) {
+        if (a_up == b_up) return 2 * (a < b ? b - a : a - b)
+        return a_up ? b - a : a - b
+    }
+    {
+        x = along($1, $3 == 1 || $3 == 4, $4, $6 == 1 || $6 == 4)
+        y = along($2, $3 <= 2, $5, $6 <= 2)
+        print x < 0 || y < 0 ? "never" : x < y ? y : x
+    }' "$made/words" >"$made/should"
+judge 'grow, 800 pairs of labels' "$made/should" "$made/nothing"
+
 # ---- Words outside the rules, each in the place of every coordinate and of every corner
-for word in '' 07 00 +7 -1 -0 ' 7' '7 ' 1.0 1e3 0x1 a free 10001 65537 99999999 100000000 0000000001 4294967297 18446744073709551617; do
+for word in '' 07 00 é ٣ +7 -1 -0 ' 7' '7 ' 1.0 1e3 0x1 a free 10001 65537 99999999 100000000 0000000001 4294967297 18446744073709551617; do
     refused_word 1 "$word" 2 1 3 4 1
     refused_word 2 1 "$word" 1 3 4 1
     refused_word 3 1 2 "$word" 3 4 1
@@ -99,13 +115,22 @@ for byte in $(seq 1 255); do
     word=$(printf "\\$(printf %03o "$byte").")
     timeout 10 "$grow" "${word%.}" 0 1 0 0 1
     timeout 10 "$grow" 0 0 1 0 0 "${word%.}"
-done >"$made/out" 2>/dev/null
+done >"$made/out" 2>"$made/err"
 for byte in $(seq 1 255); do
-    if [ "$byte" -ge 48 ] && [ "$byte" -le 57 ]; then echo $((2 * (byte - 48))); else printf 'refused\t3\n'; fi
-    if [ "$byte" -ge 49 ] && [ "$byte" -le 52 ]; then echo 0; else printf 'refused\t3\n'; fi
-done >"$made/should"
-: >"$made/err"
-judge 'grow, each byte as a word' "$made/should" "$made/nothing"
+    if [ "$byte" -ge 48 ] && [ "$byte" -le 57 ]; then
+        echo $((2 * (byte - 48)))
+    else
+        printf 'refused\t3\n'
+        echo 'grow: word 1: a coordinate outside the rule: it is a whole number from 0 to 10000, with no leading zero' >&2
+    fi
+    if [ "$byte" -ge 49 ] && [ "$byte" -le 52 ]; then
+        echo 0
+    else
+        printf 'refused\t3\n'
+        echo 'grow: word 6: a corner not 1 to 4' >&2
+    fi
+done >"$made/should" 2>"$made/explained"
+judge 'grow, each byte as a word' "$made/should" "$made/explained"
 
 # ---- Other than six words: the usage, and nothing on standard output
 cat >"$made/explained" <<'END'

@@ -3,12 +3,14 @@
 use mathlib.Core.Path.{_≡_, refl, sym, ap}
 use mathlib.Core.Bool.{Bool, true, false, not, _||_}
 use mathlib.Core.List.{List, [], _∷_}
+use mathlib.Core.Option.{none, some}
 use Prim.Native.Nat.{ℕ, _≤_, _<_}
 use native.Mathlib.Decide.{decLe}
 use native.Mathlib.Omega.{arith}
 use lib.Dec.{leb, ltb}
 use borrow.Author.Tests.{le-leb, lt-leb, le-ltb, lt-ltb}
 use Rattle.placing.specs.declared.units.Growth.{Growth}
+use Rattle.placing.specs.declared.units.Growth.the-variants.{Never}
 use Rattle.placing.specs.declared.units.Place.{Place}
 use Rattle.placing.specs.rules.Units.{greatestCoordinate}
 use Rattle.placing.specs.rules.Corner.{Corner}
@@ -21,6 +23,7 @@ use Rattle.placing.specs.theorems.Growth.{grows-to, grows-one, grows-turned, me
 use Rattle.plan.specs.declared.refusal.Refusal.{Refusal}
 use Rattle.plan.specs.declared.refusal.Refusal.the-variants.{BadNumber}
 use Rattle.plan.specs.rules.Refusal.{numberOf, Test, _gives_, numberBy, afterTests}
+use Rattle.plan.specs.rules.List.{placeAt}
 use Rattle.plan.specs.calls.Answers.{carriedAt}
 use Rattle.growth.specs.declared.AskedGrowth.{AskedGrowth}
 use Rattle.growth.specs.declared.AskedGrowth.the-variants.{GrowthIs, NoGrowth}
@@ -106,6 +109,13 @@ module _ (s : Place) (c : ℕ) (t : Place) (e : ℕ) where
 
 -- ---- what the contract says
 
+-- Any label within the coordinate range, at a corner 1 to 4, can be asked about, and no other can.
+pub label-range : {x y c : ℕ} → x ≤ 10000 → y ≤ 10000 → 1 ≤ c → c ≤ 4 → HasLabel (placeAt x y) c
+label-range x-in y-in least most = record { on-plan = record { on-x = x-in; on-y = y-in }; corner = record { least = least; most = most } }
+
+pub range-label : {x y c : ℕ} → HasLabel (placeAt x y) c → (x ≤ 10000) × ((y ≤ 10000) × ((1 ≤ c) × (c ≤ 4)))
+range-label has = (has .on-plan .on-x, (has .on-plan .on-y, (has .corner .least, has .corner .most)))
+
 -- It is told in one way.
 pub told-one : {s : Place} {c : ℕ} {t : Place} {e : ℕ} {r other : AskedGrowth} → GrowthTold s c t e r → GrowthTold s c t e other → r ≡ other
 told-one (told own beside grows) (told own′ beside′ grows′) = ap GrowthIs (grows-one grows grows′)
@@ -134,3 +144,8 @@ asked-symmetric s c t e = told-one (asked-tells s c t e) (turned (asked-tells t 
     turned : {r : AskedGrowth} → GrowthTold t e s c r → GrowthTold s c t e r
     turned (told own beside grows) = told beside own (grows-turned grows)
     turned (told-3 refused) = told-3 (λ has has-other. refused has-other has)
+
+-- An answer carries its number, or never, and a refusal nothing.
+pub growth-values : ((g : ℕ) → growthCarried (GrowthIs (upTo g)) ≡ some (some g))
+    × ((growthCarried (GrowthIs Never) ≡ some none) × ((why : Refusal) → growthCarried (NoGrowth why) ≡ none))
+growth-values = (λ g. refl, (refl, λ why. refl))

@@ -54,6 +54,10 @@ rows =
     ∷ label 4 0 1 with label 4 9 3 tells upToSide 9
     -- facing away along one axis
     ∷ label 3 0 1 with label 0 8 2 tells never
+    -- down along y: the same direction, then facing each other along x
+    ∷ label 7 9 4 with label 8 2 4 tells upToSide 14
+    ∷ label 40 3 4 with label 40 3000 2 tells never
+    ∷ label 3000 40 3 with label 2 40 4 tells upToSide 2998
     -- outside the range, and no corner
     ∷ label 10001 0 1 with label 0 0 1 tells refusedWith3
     ∷ label 0 0 1 with label 0 10001 1 tells refusedWith3
@@ -70,7 +74,8 @@ AllRight [] = Unit {0}
 AllRight (row ∷ more) = Right row × AllRight more
 
 pub known : AllRight rows
-known = (refl, (refl, (refl, (refl, (refl, (refl, (refl, (refl, (refl, (refl, (refl, (refl, (refl, tt)))))))))))))
+known =
+    (refl, (refl, (refl, (refl, (refl, (refl, (refl, (refl, (refl, (refl, (refl, (refl, (refl, (refl, (refl, (refl, tt))))))))))))))))
 
-pub rows-count : length rows ≡ 13
+pub rows-count : length rows ≡ 16
 rows-count = refl

@@ -40,11 +40,12 @@ called-meets s c t e before asked-is number-is after-is =
     let after-so = after-is ∙ ap (λ (a : AskedGrowth). growthLeft a before) asked-is in
     (number-so, (after-so, rw (number-so, after-so) (called-tells before (asked-tells s c t e))))
 
--- What the contract says, read back: 0 with the growth that the lent number stands for, by which the labels meet at the sides p/q that
--- exceed it and at no other ..
+-- What the contract says, read back: 0 for two labels that can be asked about, with the growth that the lent number stands for, by which
+-- they meet at the sides p/q that exceed it and at no other ..
 pub called-0 : {s : Place} {c : ℕ} {t : Place} {e before number after : ℕ} → GrowthCalled s c t e before number after → number ≡ 0
-    → (p q : ℕ) → (Meet p q s c t e → Exceeds p q (growthFrom after)) × (Exceeds p q (growthFrom after) → Meet p q s c t e)
-called-0 (gives-0 own other grows) is = meet-beyond grows
+    → (HasLabel s c × HasLabel t e)
+    × ((p q : ℕ) → (Meet p q s c t e → Exceeds p q (growthFrom after)) × (Exceeds p q (growthFrom after) → Meet p q s c t e))
+called-0 (gives-0 own other grows) is = ((own, other), meet-beyond grows)
 called-0 (gives-3 refused) is = absurd (omega (arith, is))
 
 -- .. or 3, with the lent number as it came, only where there is no such label.

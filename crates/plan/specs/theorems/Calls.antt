@@ -5,13 +5,14 @@ use mathlib.Core.Bool.{Bool, true, false, not}
 use mathlib.Core.List.{List, [], _∷_}
 use mathlib.Core.Logic.{_⊎_, ⊎-elim}
 use mathlib.Core.Option.{Option, some, none}
-use Prim.Native.Nat.{ℕ, _*_}
+use Prim.Native.Nat.{ℕ, _*_, _≤_, _<_}
 use native.Mathlib.Omega.{arith}
-use borrow.Author.Tests.{ne-eqb}
+use borrow.Author.Tests.{le-leb, lt-leb, ne-eqb}
 use lib.Dec.{eqb, ltb}
 use lib.ListN.{length}
 use Rattle.placing.specs.declared.units.Side.{Side}
 use Rattle.placing.specs.declared.way.Way.{Way}
+use Rattle.placing.specs.rules.Units.{greatestCoordinate}
 use Rattle.placing.specs.rules.Choice.{cornerAt}
 use Rattle.placing.specs.rules.Answer.{isSide, sideNumber}
 use Rattle.placing.specs.deciding.Answer.{answerOf, chosenAt}
@@ -26,6 +27,7 @@ use Rattle.plan.specs.declared.plan.AskedSide.the-variants.{SideIs}
 use Rattle.plan.specs.declared.plan.AskedCorner.the-variants.{CornerIs}
 use Rattle.plan.specs.declared.plan.Written.the-variants.{Bytes}
 use Rattle.plan.specs.rules.Refusal.{numberOf, _gives_, firstRefusal, refusalNumber, numberBy, unless}
+use Rattle.plan.specs.rules.Text.{decimal, numberIn}
 use Rattle.plan.specs.rules.List.{Site, placesOf, enterTests, wantedAt}
 use Rattle.plan.specs.deciding.Output.{existsAt}
 use Rattle.plan.specs.rules.Calls.{findingTests, cleared, sideTests, cornerTests, writeTests, filledWith, bytesAfter}
@@ -56,6 +58,8 @@ use Rattle.plan.specs.calls.Answers.{
   bufferAfter,
 }
 use Rattle.plan.specs.Demands.{Refuses, EnterTold, FindTold, ChooseTold, SideTold, CornerTold, WriteTold}
+use Rattle.plan.specs.calls.Given.{coordinateRead, coordinateNumber}
+use Rattle.plan.specs.theorems.Text.{number-decimal}
 use Rattle.plan.specs.theorems.Tables.{number-some}
 
 -- A refusal carries no value.
@@ -175,3 +179,14 @@ carried-values = (λ side. refl, (λ corner. refl, λ n. refl))
 
 pub carried-accepted : (value : ℕ) → carriedAt 0 value ≡ some value
 carried-accepted value = refl
+
+-- A coordinate is read from what a list writes for it, and from no number above 10,000.
+pub coordinate-written : (n : ℕ) → n ≤ 10000 → coordinateNumber (coordinateRead (numberIn (decimal n))) ≡ some n
+coordinate-written n inside =
+    ap (λ (o : Option ℕ). coordinateNumber (coordinateRead o)) (number-decimal n)
+    ∙ rw (le-leb n greatestCoordinate inside, coordinateRead)
+
+pub coordinate-none : (n : ℕ) → 10000 < n → coordinateNumber (coordinateRead (numberIn (decimal n))) ≡ none
+coordinate-none n outside =
+    ap (λ (o : Option ℕ). coordinateNumber (coordinateRead o)) (number-decimal n)
+    ∙ rw (lt-leb n greatestCoordinate outside, coordinateRead)

@@ -94,8 +94,8 @@ size_t lemoncanyon_sheet_at(const uint8_t *list, size_t list_length, uint32_t wa
 
    0: `*growth` is the greatest side, in half units, at which the two labels do not meet, from 0 to 20,000; they meet at every greater
    side, whole or fraction, and at no other. Or it is LEMONCANYON_NEVER: they meet at no side, since along x or along y they face away from
-   each other. One place given twice gives 0, at whatever corners. Whichever label is named first, the answer is the same. The program
-   `grow` writes the same answer.
+   each other. One place given twice gives 0, at whatever corners, though its labels at opposite corners cover no common point.
+   Whichever label is named first, the answer is the same. The program `grow` writes the same answer.
    3: a place is outside the range, 0 to 10,000, or a corner is not 1 to 4. `*growth` is as it came. */
 uint32_t lemoncanyon_growth(uint32_t x1, uint32_t y1, uint32_t corner1, uint32_t x2, uint32_t y2, uint32_t corner2, uint32_t *growth);
 

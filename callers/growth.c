@@ -1,7 +1,8 @@
 /* How far two labels grow, over the static library. With six words (x, y and corner of one label, then of the other) it writes what the
    program `grow` writes. Otherwise it compares the answers with the picture: the labels are drawn, and a point is looked for that both
    cover. It writes how many pairs and refusals it compared, and the exit status is 0 where all are right. To see that wrong answers are
-   told, a first word is added to every answer, and a second one is taken for the number of a refusal. */
+   told, a first word is added to the answers, a second one is taken for the number of a refusal, and a third one says from which pair on
+   the first is added. */
 #include <stdio.h>
 #include <stdlib.h>
 
@@ -16,7 +17,7 @@ struct label {
 };
 
 static uint32_t added, refusal = 3;
-static long compared, compared_refused;
+static long compared, compared_refused, added_from;
 
 /* Offsets from the site in the label's own directions, in ticks. */
 static long right(struct label l, long x) { return l.corner == 1 || l.corner == 4 ? x - UNIT * (long)l.x : UNIT * (long)l.x - x; }
@@ -72,7 +73,8 @@ static void compare(struct label s, struct label t) {
             wrong(s, t, "it is not 0");
         return;
     }
-    growth += added;
+    if (compared > added_from)
+        growth += added;
     if (growth == LEMONCANYON_NEVER) {
         if (meet(s, t, 20001) || meet(s, t, 1000000))
             wrong(s, t, "they meet");
@@ -149,6 +151,8 @@ int main(int count, char **words) {
         added = number(words[1]);
     if (count > 2)
         refusal = number(words[2]);
+    if (count > 3)
+        added_from = number(words[3]);
     uint32_t small[] = {0, 1, 2, 3, 4, 5}, edges[] = {0, 1, 2, 4999, 5000, 9998, 9999, 10000};
     compare_all(small, 6);
     compare_all(edges, 8);

@@ -73,24 +73,37 @@ done >"$made/out" 2>"$made/err"
 for d in $distances; do printf '%s\n' "$((2 * d))" "$d" never "$((2 * d))" "$d" never; done >"$made/should"
 judge 'grow, distances' "$made/should" "$made/nothing"
 
-# ---- Numbers of every length in every word, at all corners, against the rule by another hand: the distance along an axis, twice where the
-# labels go the same way, none where they face away
+# ---- Against the rule by another hand: the distance along an axis, twice where the labels go the same way, none where they face away.
+# Numbers of every length in every word at all corners; the ends of the range in every word; and each number of the range in some word
+by_rule() {
+    awk 'function along(a, a_up, b, b_up) {
+            if (a_up == b_up) return 2 * (a < b ? b - a : a - b)
+            return a_up ? b - a : a - b
+        }
+        {
+            x = along($1, $3 == 1 || $3 == 4, $4, $6 == 1 || $6 == 4)
+            y = along($2, $3 <= 2, $5, $6 <= 2)
+            print x < 0 || y < 0 ? "never" : x < y ? y : x
+        }'
+}
 awk 'function number() { return int(rand() * 10 ^ int(1 + 5 * rand())) % 10001 }
-    BEGIN { srand(3); for (i = 0; i < 800; i++) print number(), number(), 1 + i % 4, number(), number(), 1 + int(i / 4) % 4 }' >"$made/words"
-while read -r words; do timeout 10 "$grow" $words; done <"$made/words" >"$made/out" 2>"$made/err"
-awk 'function along(a, a_up, b, b_up) {
-        if (a_up == b_up) return 2 * (a < b ? b - a : a - b)
-        return a_up ? b - a : a - b
-    }
-    {
-        x = along($1, $3 == 1 || $3 == 4, $4, $6 == 1 || $6 == 4)
-        y = along($2, $3 <= 2, $5, $6 <= 2)
-        print x < 0 || y < 0 ? "never" : x < y ? y : x
-    }' "$made/words" >"$made/should"
-judge 'grow, 800 pairs of labels' "$made/should" "$made/nothing"
+    BEGIN {
+        srand(3)
+        for (i = 0; i < 800; i++) print number(), number(), 1 + i % 4, number(), number(), 1 + int(i / 4) % 4
+        for (i = 0; i < 256; i++)
+            print 10000 * (i % 2), 10000 * (int(i / 2) % 2), 1 + int(i / 16) % 4, 10000 * (int(i / 4) % 2), 10000 * (int(i / 8) % 2), 1 + int(i / 64)
+        for (i = 0; i <= 10000; i++) {
+            at[0] = at[1] = at[2] = at[3] = 5000
+            at[i % 4] = i
+            print at[0], at[1], 1 + int(i / 4) % 4, at[2], at[3], 1 + int(i / 16) % 4
+        }
+    }' >"$made/words"
+while read -r words; do "$grow" $words; done <"$made/words" >"$made/out" 2>"$made/err"
+by_rule <"$made/words" >"$made/should"
+judge "grow, $(wc -l <"$made/words") pairs of labels" "$made/should" "$made/nothing"
 
 # ---- Words outside the rules, each in the place of every coordinate and of every corner
-for word in '' 07 00 é ٣ +7 -1 -0 ' 7' '7 ' 1.0 1e3 0x1 a free 10001 65537 99999999 100000000 0000000001 4294967297 18446744073709551617; do
+for word in '' 07 007 0040 00 é ٣ +7 -1 -0 ' 7' '7 ' 1.0 1e3 0x1 a free 10001 65537 99999999 100000000 0000000001 4294967297 18446744073709551617; do
     refused_word 1 "$word" 2 1 3 4 1
     refused_word 2 1 "$word" 1 3 4 1
     refused_word 3 1 2 "$word" 3 4 1
@@ -143,7 +156,8 @@ corner is 1 right and up, 2 left and up, 3 left and down, 4 right and down. What
 is outside the rules gives the word refused and the number 3, and standard error
 says why. Nothing was written.
 END
-for words in '' '1' '1 2' '1 2 1 3' '1 2 1 3 4' '1 2 1 3 4 1 1' '1 2 1 3 4 1 1 2 1 3 4 1' "$(seq 262)" --help; do
+for words in '' '1' '1 2' '1 2 1' '1 2 1 3' '1 2 1 3 4' '1 2 1 3 4 1 1' '1 2 1 3 4 1 1 2' '1 2 1 3 4 1 1 2 1' '1 2 1 3 4 1 1 2 1 3' \
+    '1 2 1 3 4 1 1 2 1 3 4' '1 2 1 3 4 1 1 2 1 3 4 1' "$(seq 262)" --help; do
     grown $words
     judge "grow, $(set -- $words; echo $#) words" "$made/nothing" "$made/explained"
 done

@@ -59,6 +59,11 @@ pub record Writes (label : LabelWords) (x y corner : ℕ) : Type 0 where
   pub y-written : bytesIn (label .y) ≡ decimal y
   pub corner-written : bytesIn (label .corner) ≡ decimal corner
 
+-- Any three words that do, and nothing is asked of them besides.
+pub writes-made : {label : LabelWords} {x y corner : ℕ} → bytesIn (label .x) ≡ decimal x → bytesIn (label .y) ≡ decimal y
+    → bytesIn (label .corner) ≡ decimal corner → Writes label x y corner
+writes-made at-x at-y at-corner = record { x-written = at-x; y-written = at-y; corner-written = at-corner }
+
 -- They give these numbers, where those make a label ..
 written-number : {text : List ℕ} (n : ℕ) → text ≡ decimal n → numberOr (numberIn text) ≡ numberOr (some n)
 written-number n is = ap numberOr (ap numberIn is ∙ number-decimal n)
@@ -113,6 +118,11 @@ pub data NoNumber (label : LabelWords) : Type 0 where
   no-x : numberIn (bytesIn (label .x)) ≡ none → NoNumber label
   no-y : numberIn (bytesIn (label .y)) ≡ none → NoNumber label
   no-corner : numberIn (bytesIn (label .corner)) ≡ none → NoNumber label
+
+-- Any of the three, and nothing is asked of it besides.
+pub no-number : {label : LabelWords} → (numberIn (bytesIn (label .x)) ≡ none → NoNumber label)
+    × ((numberIn (bytesIn (label .y)) ≡ none → NoNumber label) × (numberIn (bytesIn (label .corner)) ≡ none → NoNumber label))
+no-number = (no-x, (no-y, no-corner))
 
 none-given : {label : LabelWords} → NoNumber label → HasLabel (placeGiven label) (numberGiven (label .corner)) → ⊥
 none-given (no-x is) has = omega (arith, ap numberOr is, has .on-plan .on-x)

@@ -1,16 +1,23 @@
 -- The digits that the library puts into an array are those of a number as in a list; and the bytes of a refusal.
 -- Assumes nothing.
 use mathlib.Core.Path.{_≡_, refl, sym, _∙_, subst}
-use mathlib.Core.List.{[], _∷_, _++_}
+use mathlib.Core.List.{List, [], _∷_, _++_}
 use Prim.Native.Nat.{ℕ, zero, suc, _+_, _-_, _*_, _/_, _%_, _^_, _≤_, _<_}
 use native.Mathlib.Nat.{pow-suc, pow-le-pow-right}
 use native.Mathlib.Omega.{arith}
 use borrow.Author.Tests.{lt-ltb}
+use lib.ListN.{take}
 use Rattle.io.specs.Digits.{glyph, digits, Fewest}
+use Rattle.placing.specs.declared.units.Growth.the-variants.{Never}
+use Rattle.placing.specs.deciding.Growth.{upTo}
+use Rattle.plan.specs.declared.refusal.Refusal.{Refusal}
+use Rattle.plan.specs.rules.Refusal.{numberOf}
 use Rattle.plan.specs.rules.Text.{lineFeed, zeroDigit, Writes, one-digit, one-more, decimal}
 use Rattle.plan.specs.rules.Sheet.{refusalLine}
 use Rattle.plan.specs.theorems.Text.{writes-decimal, decimal-digit, decimal-large}
-use Rattle.grow.specs.Text.{refusalText}
+use Rattle.growth.specs.declared.AskedGrowth.the-variants.{GrowthIs, NoGrowth}
+use Rattle.grow.specs.declared.text.Text.{Text}
+use Rattle.grow.specs.Text.{refusalText, askedText, Holds}
 
 -- The byte of a digit below 10.
 glyph-digit : (d : ℕ) → d < 10 → glyph d ≡ zeroDigit + d
@@ -52,6 +59,12 @@ refusal-digits n least most =
     let tenth : n / 10 < 10 = omega arith in
     rw (decimal-large n least, decimal-digit (n / 10) tenth)
 
--- With a line feed behind it, it is the line of a refusal.
-pub refusal-line : (n : ℕ) → refusalText n ++ (lineFeed ∷ []) ≡ refusalLine n
-refusal-line n = refl
+-- What is told, as bytes: the number as in a list, the word never, and with a line feed behind it the line of a refusal.
+pub told-texts : ((g : ℕ) → askedText (GrowthIs (upTo g)) ≡ decimal g)
+    × ((askedText (GrowthIs Never) ≡ 110 ∷ 101 ∷ 118 ∷ 101 ∷ 114 ∷ [])
+    × ((why : Refusal) → askedText (NoGrowth why) ++ (lineFeed ∷ []) ≡ refusalLine (numberOf why)))
+told-texts = (λ g. refl, (refl, λ why. refl))
+
+-- An array that holds bytes has them at its front.
+pub holds-bytes : {text : Text} {bytes : List ℕ} → Holds text bytes → take (text .len) (text .bytes) ≡ bytes
+holds-bytes holds = holds .held

@@ -1,6 +1,5 @@
 // The corners, numbered as quadrants, and each one's two directions.
 ghost use mathlib.Core.Path.{_≡_};
-ghost use lib.Dec.{eqb};
 ghost use Rattle.placing.specs.rules.Corner.{upWhere, directionsOf, Corner};
 ghost use Rattle.placing.specs.deciding.Decides.{Decides};
 
@@ -15,28 +14,21 @@ pub(crate) struct Directions {
     pub y: Direction,
 }
 
-// Each corner's direction along x and along y, 1 for up the axis; corner 1 first.
-const DIRECTIONS: [u8; 8] = [1, 1, 0, 1, 0, 0, 1, 0];
-
-fn direction_from(up: u8) -> Direction
-    ensures { λ r. ⌜ r ≡ upWhere (eqb up 1) ⌝ }
+// Up the axis where `up` says so, else down it.
+fn direction_where(up: bool) -> Direction
+    ensures { λ r. ⌜ r ≡ upWhere up ⌝ }
 {
-    if up == 1 {
-        Direction::Up
-    } else {
-        Direction::Down
-    }
+    if up { Direction::Up } else { Direction::Down }
 }
 
-// A corner's two directions, off the table.
+// A corner's two directions, by its number. To the right go 4 and 1, which modulo 4 are 0 and 1; upwards go 1 and 2.
 pub(crate) fn directions_of(corner: u8) -> Directions
     requires { ⌜ Corner corner ⌝ }
     ensures { λ r. ⌜ r ≡ directionsOf corner ⌝ }
 {
-    let at = 2 * (corner as usize - 1);
     Directions {
-        x: direction_from(DIRECTIONS[at]),
-        y: direction_from(DIRECTIONS[at + 1]),
+        x: direction_where(corner % 4 <= 1),
+        y: direction_where(corner <= 2),
     }
 }
 

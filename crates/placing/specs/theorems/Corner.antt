@@ -52,7 +52,7 @@ cornerOf Up Down = 4
 abbrev pub cornerToward : (Axis → Direction) → ℕ
 cornerToward d = cornerOf (d X) (d Y)
 
--- What there is to say of it, from the table.
+-- What there is to say of it, case by case.
 corner-of : (x y : Direction) → Corner (cornerOf x y) × (toward X (cornerOf x y) ≡ x) × (toward Y (cornerOf x y) ≡ y)
 corner-of Up Up = (record { least = omega arith; most = omega arith }, refl, refl)
 corner-of Down Up = (record { least = omega arith; most = omega arith }, refl, refl)

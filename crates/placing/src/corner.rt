@@ -21,7 +21,7 @@ fn direction_where(up: bool) -> Direction
     if up { Direction::Up } else { Direction::Down }
 }
 
-// A corner's two directions, by its number. To the right go 4 and 1, which modulo 4 are 0 and 1; upwards go 1 and 2.
+// A corner's two directions, by its number. Corners 1 and 4 go to the right: modulo 4 they are 1 and 0. Corners 1 and 2 go upwards.
 pub(crate) fn directions_of(corner: u8) -> Directions
     requires { ⌜ Corner corner ⌝ }
     ensures { λ r. ⌜ r ≡ directionsOf corner ⌝ }

@@ -93,7 +93,7 @@ fn further(x: Growth, y: Growth) -> Growth
 }
 
 // The label of a site: where the site stands, and the directions in which the label goes from it. A caller who looks at many labels of a
-// corner finds its directions once.
+// corner finds that corner's directions once.
 pub(crate) struct Label {
     pub site: Place,
     pub toward: Directions,

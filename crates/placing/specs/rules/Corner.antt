@@ -29,6 +29,6 @@ abbrev pub opposite : Direction → Direction
 opposite Up = Down
 opposite Down = Up
 
--- A corner's two directions. Document 01 has them in a constant table; the code finds them by a formula in the number (document 02, L4).
+-- "each corner's two directions".
 abbrev pub directionsOf : ℕ → Directions
 directionsOf c = record { x = toward X c; y = toward Y c }

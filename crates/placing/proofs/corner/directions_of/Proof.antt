@@ -10,10 +10,11 @@ use borrow.Author.Needs.{needs}
 use Rattle.placing.proofs.corner.directions_of.Statement.{statement}
 use Rattle.placing.proofs.corner.directions_of.Tie as tie
 
+-- the code's formula
 abbrev byFormula : ℕ → Directions
 byFormula c = record { x = upWhere (leb (c % 4) 1); y = upWhere (leb c 2) }
 
--- what the formula gives for each of the four corners
+-- gives each corner's two directions
 by-formula : {c : ℕ} → Corner c → byFormula c ≡ directionsOf c
 by-formula = each-corner (λ c. byFormula c ≡ directionsOf c) refl refl refl refl
 

@@ -1,22 +1,17 @@
-//! A straightforward placer of the same lists, to compare cost with. It follows the rules of document 01 and, above the spot and on small
-//! levels, of document 02, L2 and L5, by the same methods: decide a corner, carry the decision on, walk the sites in list order; on small
-//! levels try one site after another and go back; bisect for the side. Usage:
-//!     baseline place [above | small] [SIDE] < LIST   writes the sheet, at the side found or at this one
-//!     baseline list KIND N                           writes a list: random, grid, row, diagonal, antidiagonal, packed, jitter, block, behind
+//! A straightforward placer of the same lists, to compare cost with. It follows the rules of document 01 and, above the spot, of document
+//! 02, L2, by the same method: decide a corner, carry the decision on, walk the sites in list order, bisect for the side. Usage:
+//!     baseline place [above] [SIDE] < LIST   writes the sheet, with four corners or 1 and 2, at the side found or at this one
+//!     baseline list KIND N                   writes a list: random, grid, row, diagonal, antidiagonal, packed, jitter
 use std::io::{self, Read, Write};
 
 const FREE: i64 = 20_001;
 const DIRECTIONS: [(i64, i64); 4] = [(1, 1), (-1, 1), (-1, -1), (1, -1)];
 
-/// The most sites of a small level.
-const SMALL_SITES: usize = 10;
-
-/// Which corners count: of all four those that are not crowded; or 1 and 2, crowded or not; or all four, crowded or not.
+/// Which corners count: of all four those that are not crowded, or 1 and 2, crowded or not.
 #[derive(Clone, Copy)]
 enum Way {
     Usual,
     Above,
-    Small,
 }
 
 #[derive(Clone)]
@@ -61,7 +56,6 @@ fn is_open(way: Way, h: i64, sites: &[Site], i: usize, c: usize) -> bool {
     match way {
         Way::Usual => !crowded(h, sites, i, c),
         Way::Above => c < 2,
-        Way::Small => true,
     }
 }
 
@@ -99,7 +93,7 @@ fn try_corner(h: i64, sites: &[Site], state: &State, i: usize, c: usize) -> Opti
     Some(next)
 }
 
-fn walk(way: Way, h: i64, sites: &[Site]) -> Option<Vec<usize>> {
+fn choose(way: Way, h: i64, sites: &[Site]) -> Option<Vec<usize>> {
     let n = sites.len();
     let mut open = vec![[false; 4]; n];
     for i in 0..n {
@@ -115,34 +109,6 @@ fn walk(way: Way, h: i64, sites: &[Site]) -> Option<Vec<usize>> {
         }
     }
     Some(state.decided.iter().map(|c| c.unwrap()).collect())
-}
-
-// Gives the sites behind those that have corners the first ones whose labels meet none before, or leaves the corners as they came.
-fn go_on(h: i64, sites: &[Site], corners: &mut Vec<usize>) -> bool {
-    let i = corners.len();
-    if i == sites.len() {
-        return true;
-    }
-    for c in 0..4 {
-        if (0..i).all(|j| !meet(h, &sites[i], c, &sites[j], corners[j])) {
-            corners.push(c);
-            if go_on(h, sites, corners) {
-                return true;
-            }
-            corners.pop();
-        }
-    }
-    false
-}
-
-fn choose(way: Way, h: i64, sites: &[Site]) -> Option<Vec<usize>> {
-    match way {
-        Way::Small => {
-            let mut corners = Vec::new();
-            go_on(h, sites, &mut corners).then_some(corners)
-        }
-        _ => walk(way, h, sites),
-    }
 }
 
 fn place(way: Way, sites: &[Site]) -> (Option<i64>, Vec<usize>) {
@@ -175,15 +141,13 @@ fn sheet_with(sites: &[Site], side: Option<i64>, corners: Vec<usize>) -> String 
     text
 }
 
-// The sheet at the side found, or at a given one, from 1 to 20,000 or free; or its refusal.
-fn sheet(way: Way, sites: &[Site], given: Option<&str>) -> String {
-    if matches!(way, Way::Small) && sites.len() > SMALL_SITES {
-        return String::from("refused\t13\n");
-    }
-    let Some(word) = given else {
-        let (side, corners) = place(way, sites);
-        return sheet_with(sites, side, corners);
-    };
+fn sheet(way: Way, sites: &[Site]) -> String {
+    let (side, corners) = place(way, sites);
+    sheet_with(sites, side, corners)
+}
+
+// The sheet at a given side, from 1 to 20,000 or free, or its refusal.
+fn sheet_at(way: Way, sites: &[Site], word: &str) -> String {
     let side = word.parse().ok();
     match choose(way, side.unwrap_or(FREE), sites) {
         Some(corners) => sheet_with(sites, side, corners),
@@ -224,11 +188,6 @@ fn make_list(kind: &str, n: usize) -> String {
             "antidiagonal" => (40 * k, 10_000 - 40 * k),
             "packed" => (random(40), random(40)),
             "jitter" => (600 * (k % 16) + random(101), 600 * (k / 16) + random(101)),
-            "block" => (k % 4, k / 4),
-            // The last three, 1 unit apart, meet at every side above 2, and a search that goes back tries every corner of those before them
-            // in vain. All stand in one column, so that no two are told apart along x.
-            "behind" if k + 3 >= n as i64 => (0, 10_000 - k),
-            "behind" => (0, 1_400 * k),
             _ => panic!("no such kind of list"),
         };
         if !places.contains(&place) {
@@ -241,17 +200,13 @@ fn make_list(kind: &str, n: usize) -> String {
 fn main() {
     let words: Vec<String> = std::env::args().collect();
     let words: Vec<&str> = words.iter().skip(1).map(|w| w.as_str()).collect();
-    let (way, words) = match words[..] {
-        ["place", "above", ..] => (Some(Way::Above), &words[2..]),
-        ["place", "small", ..] => (Some(Way::Small), &words[2..]),
-        ["place", ..] => (Some(Way::Usual), &words[1..]),
-        _ => (None, &words[..]),
-    };
-    let text = match (way, words) {
-        (Some(way), []) => sheet(way, &read_list(), None),
-        (Some(way), [side]) => sheet(way, &read_list(), Some(side)),
-        (None, ["list", kind, n]) => make_list(kind, n.parse().unwrap()),
-        _ => panic!("usage: baseline place [above | small] [SIDE] < LIST, or baseline list KIND N"),
+    let text = match words[..] {
+        ["place"] => sheet(Way::Usual, &read_list()),
+        ["place", "above"] => sheet(Way::Above, &read_list()),
+        ["place", side] => sheet_at(Way::Usual, &read_list(), side),
+        ["place", "above", side] => sheet_at(Way::Above, &read_list(), side),
+        ["list", kind, n] => make_list(kind, n.parse().unwrap()),
+        _ => panic!("usage: baseline place [above] [SIDE] < LIST, or baseline list KIND N"),
     };
     io::stdout().write_all(text.as_bytes()).unwrap();
 }

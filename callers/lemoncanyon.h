@@ -1,5 +1,5 @@
-/* Square labels for the spots of a car park level: from the bytes of a list to the bytes of its sheet in one call, with four corners,
-   above the spot only or as a small level, at the greatest side or at a side of the caller's; and how far two labels grow.
+/* Square labels for the spots of a car park level: from the bytes of a list to the bytes of its sheet in one call, with four corners or
+   above the spot only, at the greatest side or at a side of the caller's; and how far two labels grow.
    Link target/staticlib/libsheet_call.a, which `rt staticlib sheet_call` writes. The contracts are proved in crates/sheet_call.
 
    Platform: Linux on x86-64 (x86_64-unknown-linux-gnu, the System V calling convention), for programs in C, C++ or Rust.
@@ -15,7 +15,7 @@
 extern "C" {
 #endif
 
-/* callers/run compares these nine numbers with the source, the proved programs and the shortest sheets. */
+/* callers/run compares these eight numbers with the source, the proved programs and the shortest sheets. */
 
 /* No sheet of lemoncanyon_sheet is shorter: a number below this is a refusal. */
 #define LEMONCANYON_SHORTEST 18
@@ -39,10 +39,6 @@ extern "C" {
 /* Given as a way, above the spot only: corners 1 and 2. A choice of these is good at a side where no two labels meet, crowded or not. */
 #define LEMONCANYON_ABOVE 2
 
-/* Given as a way, a small level: all four corners, at most ten sites. A choice of corners is good at a side where no two labels meet,
-   crowded or not. */
-#define LEMONCANYON_SMALL 3
-
 /* Told as a growth: never, where two labels meet at no side. */
 #define LEMONCANYON_NEVER 4294967295u
 
@@ -54,46 +50,41 @@ extern "C" {
 /* Places the sites of a list, in the given way, at the greatest side that has a good choice, and writes its sheet.
 
    LEMONCANYON_SHORTEST or more: the length of the sheet. The buffer holds the sheet from its first byte on, the same bytes that the
-   program `place` writes for this list, `place above` with LEMONCANYON_ABOVE, `place small` with LEMONCANYON_SMALL, and every byte after it
-   is as it came. Of this sheet holds, with LEMONCANYON_USUAL: no two labels meet, no corner is crowded, of all such choices at this side
-   the corners are the first in list order; no greater side has one; and nobody does better than twice the printed number, fractions too,
-   over all four corners.
+   program `place` writes for this list, or `place above` with LEMONCANYON_ABOVE, and every byte after it is as it came. Of this sheet
+   holds, with LEMONCANYON_USUAL: no two labels meet, no corner is crowded, of all such choices at this side the corners are the first in
+   list order; no greater side has one; and nobody does better than twice the printed number, fractions too, over all four corners.
    With LEMONCANYON_ABOVE: no two labels meet, corners are 1 and 2 alone, of all such choices at this side the first in list order; the
    side found is the greatest that anybody can have with corners 1 and 2, fractions too. That nobody does better than twice the number over
-   all four corners is not promised of such a sheet. Its side may be smaller or greater than that of the usual way.
-   With LEMONCANYON_SMALL: no two labels meet, of all such choices at this side the corners are the first in list order; the side found is
-   the greatest that anybody can have with any corners, fractions too. The side of the usual way is at least half of it, and is free where
-   this one is free.
-   In each way, where the sheet prints free its labels meet at no side, whole or fraction.
+   all four corners is not promised of such a sheet. Its side may be smaller or greater than that of the usual way. In either way, where the
+   sheet prints free its labels meet at no side, whole or fraction.
 
    Below LEMONCANYON_SHORTEST: the number of the refusal. Every byte of the buffer is as it came.
      1  a line of other than three fields, over 20 bytes, or without its line feed
      2  a name outside the rule
-     3  a coordinate outside the rule; or the way is none of LEMONCANYON_USUAL, LEMONCANYON_ABOVE and LEMONCANYON_SMALL: this is tested
-        first, before the list is read
+     3  a coordinate outside the rule; or the way is neither LEMONCANYON_USUAL nor LEMONCANYON_ABOVE: this is tested first, before the
+        list is read
      4  a name already in the list
      5  a place already in the list
      7  more than 240 sites
      8  no sites
     10  the list has a sheet, and the buffer is shorter than it
-    13  with LEMONCANYON_SMALL, more than ten sites: tested after 8 and before 10
    Lines are tested one after another, each for 1, 2, 3, 7, 4, 5 in this order; the first refusal counts. */
 size_t lemoncanyon_sheet(const uint8_t *list, size_t list_length, uint32_t way, uint8_t *buffer, size_t buffer_length);
 
 /* Places the sites of a list, in the given way, at a given side, in half units from 1 to 20,000, or LEMONCANYON_FREE, and writes its
    sheet.
 
-   LEMONCANYON_SHORTEST_AT or more: the length of the sheet, which stands in the buffer as with lemoncanyon_sheet and prints the given side.
-   Of this sheet holds: no two labels meet; with LEMONCANYON_USUAL no corner is crowded, and with LEMONCANYON_ABOVE corners are 1 and 2
-   alone; and of all such choices at this side the corners are the first in list order. The list that it carries gives the same sheet again
-   in the same way at the same side; the sheet does not say which way that was. What is promised besides of the side found (that it is the
-   greatest; in the usual way, that nobody does better than twice the printed number) holds only where the given side is the one that
-   lemoncanyon_sheet prints for this list in the same way; the sheet is then the same. A side found in another way is a given one.
+   LEMONCANYON_SHORTEST_AT or more: the length of the sheet, which stands in the buffer as with lemoncanyon_sheet and prints the given side. Of this sheet
+   holds: no two labels meet; no corner is crowded, or, with LEMONCANYON_ABOVE, corners are 1 and 2 alone; and of all such choices at this
+   side the corners are the first in list order. The list that it carries gives the same sheet again in the same way at the same side; the
+   sheet does not say which way that was. What is promised besides of the side found (that it is the greatest; in the usual way, that
+   nobody does better than twice the printed number) holds only where the given side is the one that lemoncanyon_sheet prints for this
+   list in the same way; the sheet is then the same. A side found in the other way is a given one.
 
    Below LEMONCANYON_SHORTEST_AT: the number of the refusal. Every byte of the buffer is as it came. The numbers are those of
    lemoncanyon_sheet, and
      3  also where the side is neither LEMONCANYON_FREE nor from 1 to 20,000: this is tested with the way, before the list is read
-    12  no good choice exists at the given side: tested after 8 and 13 and before 10
+    12  no good choice exists at the given side: tested after 8 and before 10
    At every side up to the one that lemoncanyon_sheet prints in the same way a good choice exists, and at no greater one. */
 size_t lemoncanyon_sheet_at(const uint8_t *list, size_t list_length, uint32_t way, uint32_t side, uint8_t *buffer, size_t buffer_length);
 

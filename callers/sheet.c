@@ -1,19 +1,12 @@
 /* A list on standard input, its sheet or its refusal on standard output: what `place` does, over the static library. With the word above
-   first, labels are above the spot only; with the word small first, the list is a small level; with a word behind these or alone, which is
-   a number of half units or `free`, the list is placed at that side. */
+   first, labels are above the spot only; with a word behind that or alone, which is a number of half units or `free`, the list is placed
+   at that side. */
 #include <ctype.h>
 #include <stdio.h>
 #include <stdlib.h>
 #include <string.h>
 
 #include "lemoncanyon.h"
-
-/* The way that a word names; 0, which is no way, where it names none. */
-static uint32_t way_from(const char *word) {
-    if (strcmp(word, "above") == 0)
-        return LEMONCANYON_ABOVE;
-    return strcmp(word, "small") == 0 ? LEMONCANYON_SMALL : 0;
-}
 
 /* The side that a word gives; 0, which is refused, where it gives none. */
 static uint32_t side_from(const char *word) {
@@ -32,11 +25,10 @@ int main(int count, char **words) {
         fputs("sheet: standard input cannot be read\n", stderr);
         return 1;
     }
-    uint32_t named = count > 1 ? way_from(words[1]) : 0;
-    uint32_t way = named ? named : LEMONCANYON_USUAL;
-    int behind = named ? 2 : 1;
-    int given = count > behind;
-    size_t number = given ? lemoncanyon_sheet_at(list, length, way, side_from(words[behind]), buffer, sizeof buffer)
+    int above = count > 1 && strcmp(words[1], "above") == 0;
+    uint32_t way = above ? LEMONCANYON_ABOVE : LEMONCANYON_USUAL;
+    int given = count > 1 + above;
+    size_t number = given ? lemoncanyon_sheet_at(list, length, way, side_from(words[1 + above]), buffer, sizeof buffer)
                           : lemoncanyon_sheet(list, length, way, buffer, sizeof buffer);
     if (number < (given ? LEMONCANYON_SHORTEST_AT : LEMONCANYON_SHORTEST))
         printf("refused\t%zu\n", number);

@@ -1,6 +1,6 @@
 //! A list on standard input, its sheet or its refusal on standard output: what `place` does, over the static library. With the word above
-//! first, labels are above the spot only; with the word small first, the list is a small level; with a word behind these or alone, which is
-//! a number of half units or `free`, the list is placed at that side.
+//! first, labels are above the spot only; with a word behind that or alone, which is a number of half units or `free`, the list is placed
+//! at that side.
 use std::io::{self, Read, Write};
 
 /// No sheet is shorter: a number below this is a refusal.
@@ -15,8 +15,6 @@ const FREE: u32 = 4294967295;
 const USUAL: u32 = 1;
 /// Given as a way: above the spot only, corners 1 and 2.
 const ABOVE: u32 = 2;
-/// Given as a way: a small level, all four corners, crowded or not.
-const SMALL: u32 = 3;
 
 extern "C" {
     // callers/lemoncanyon.h has the contracts.
@@ -41,15 +39,6 @@ fn sheet(list: &[u8], way: u32, side: Option<u32>) -> Result<Vec<u8>, usize> {
     Ok(buffer)
 }
 
-/// The way that a word names, where it names one.
-fn way_from(word: &str) -> Option<u32> {
-    match word {
-        "above" => Some(ABOVE),
-        "small" => Some(SMALL),
-        _ => None,
-    }
-}
-
 /// The side that a word gives; 0, which is refused, where it gives none.
 fn side_from(word: String) -> u32 {
     match word.as_str() {
@@ -63,11 +52,8 @@ fn main() -> io::Result<()> {
     io::stdin().read_to_end(&mut list)?;
     let mut out = io::stdout();
     let mut words = std::env::args().skip(1).peekable();
-    let named = words.peek().and_then(|word| way_from(word));
-    if named.is_some() {
-        words.next();
-    }
-    match sheet(&list, named.unwrap_or(USUAL), words.next().map(side_from)) {
+    let way = words.next_if_eq("above").map_or(USUAL, |_| ABOVE);
+    match sheet(&list, way, words.next().map(side_from)) {
         Ok(bytes) => out.write_all(&bytes)?,
         Err(number) => writeln!(out, "refused\t{number}")?,
     }

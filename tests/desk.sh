@@ -352,26 +352,21 @@ fi
 # misused WORDS..: the script with these words says how it is used
 misused() {
     fresh "$made/example.list"
-    echo 'usage: file-a-sheet LIST [above | small] [SIDE]    where LIST is a file that can be read, and SIDE a number of half units or free' \
+    echo 'usage: file-a-sheet LIST [above] [SIDE]    where LIST is a file that can be read, and SIDE a number of half units or free' \
         >"$desk/complained"
     files "bad usage: \"$*\"" 2 "$@"
 }
 for words in '' 'level.list level.list' 'level.list abc' 'level.list -4' 'level.list 4.5' 'level.list Free' 'level.list 4 5' \
-    nothing.list 'nothing.list 4' . --help 'level.list Above' 'level.list abov' 'level.list Small' 'level.list smal'; do
+    nothing.list 'nothing.list 4' . --help 'level.list Above' 'level.list abov' 'level.list aboveX' 'level.list above above' \
+    'level.list 4 above' 'level.list above -4' 'level.list above Free' 'level.list above 4 5' 'level.list above 4 above' \
+    'nothing.list above' 'above level.list' above 'above above' 'above 4'; do
     misused $words
 done
 misused level.list ''
-for word in above small; do
-    for words in "level.list ${word}X" "level.list 4 $word" "level.list $word -4" "level.list $word Free" "level.list $word 4 5" \
-        "level.list $word above" "level.list $word small" "level.list $word 4 above" "level.list $word 4 small" "nothing.list $word" \
-        "$word level.list" "$word" "$word above" "$word small" "$word 4"; do
-        misused $words
-    done
-    misused level.list "$word" ''
-    misused level.list '' "$word"
-    misused level.list "$word "
-    misused level.list "$word 4"
-done
+misused level.list above ''
+misused level.list '' above
+misused level.list 'above '
+misused level.list 'above 4'
 
 # At a stock size
 fresh "$made/example.list"
@@ -394,11 +389,12 @@ printf 'side\t6\n'
 sed 's/$/\t1/'
 END
 with=$desk/bin/at-another-side
-for word in '' above small; do
-    fresh "$made/example.list"
-    complains 'the sheet of level.list is not at side 4'
-    files "a sheet ${word:+$word }at another side" 1 level.list $word 4
-done
+fresh "$made/example.list"
+complains 'the sheet of level.list is not at side 4'
+files 'a sheet at another side' 1 level.list 4
+fresh "$made/example.list"
+complains 'the sheet of level.list is not at side 4'
+files 'a sheet above at another side' 1 level.list above 4
 with=$program
 
 # Above the spot: the same file, in place of an earlier sheet, and the line says so
@@ -430,24 +426,21 @@ accepted above above.sheet
 printf 'side\t8\nA\t10\t10\t1\nB\t10\t14\t1\nC\t10\t20\t1\n' >"$desk/should/above.sheet"
 echo 'above.sheet: side 8, labels above, sites 3' >"$desk/said"
 files 'a list named above, above' 0 above above
-# refusal_by NUMBER WORD LIST [SIDE]: it is refused as by the program with this word, by this number
-refusal_by() {
-    number=$1 word=$2
-    fresh "$3"
-    "$program" "$word" ${4+"$4"} <"$3" >"$made/answer" 2>"$desk/complained"
+# refusal_above LIST [SIDE]: it is refused as by the program
+refusal_above() {
+    fresh "$1"
+    "$program" above ${2+"$2"} <"$1" >"$made/answer" 2>"$desk/complained"
+    number=$(cut -f 2 "$made/answer")
     complains "level.list is refused, number $number"
-    shift 3
-    files "refused $number $word${1+ at side $1}" 1 level.list "$word" "$@"
+    shift
+    files "refused $number above${1+ at side $1}" 1 level.list above "$@"
 }
-for side in 9 free; do refusal_by 12 above "$made/example.list" "$side"; done
+for side in 9 free 0 20001 04; do refusal_above "$made/example.list" "$side"; done
 # With four corners the unit square has a sheet at every side.
-for side in 3 10 100 1000 20000 free; do refusal_by 12 above examples/square.list "$side"; done
-for word in above small; do
-    for side in 0 20001 04; do refusal_by 3 "$word" "$made/example.list" "$side"; done
-    refusal_by 2 "$word" "$made/bad.list"
-    refusal_by 2 "$word" "$made/bad.list" 4
-    refusal_by 8 "$word" "$made/nothing"
-done
+for side in 3 10 100 1000 20000 free; do refusal_above examples/square.list "$side"; done
+refusal_above "$made/bad.list"
+refusal_above "$made/bad.list" 4
+refusal_above "$made/nothing"
 # Programs that take no heed of the word: one that writes the sheet of four corners, and one that says its usage and writes nothing
 with=$desk/bin/first-bytes
 fresh "$made/example.list"
@@ -468,68 +461,10 @@ written says-its-usage <<'END'
 echo 'usage: place [SIDE] < LIST > SHEET' >&2
 END
 with=$desk/bin/says-its-usage
-for word in above small; do
-    fresh "$made/example.list"
-    echo 'usage: place [SIDE] < LIST > SHEET' >"$desk/complained"
-    complains 'the sheet of level.list is not whole'
-    files "a program that does not know $word" 1 level.list "$word"
-done
-with=$program
-
-# A small level: the same file, in place of an earlier sheet, and the line says so
 fresh "$made/example.list"
-printf 'side\t12\nA\t10\t10\t3\nB\t10\t14\t1\nC\t10\t20\t1\n' >"$desk/should/level.sheet"
-echo 'level.sheet: side 12, small level, sites 3' >"$desk/said"
-files small 0 level.list small
-# The usual way has A at 3 at side 5, and no sheet at 7; above the spot there is none at 9.
-for side in 5 7 8; do
-    fresh "$made/example.list"
-    printf 'side\t%s\nA\t10\t10\t1\nB\t10\t14\t1\nC\t10\t20\t1\n' "$side" >"$desk/should/level.sheet"
-    echo "level.sheet: side $side as given, small level, sites 3" >"$desk/said"
-    files "small, at side $side" 0 level.list small "$side"
-done
-fresh "$made/example.list"
-printf 'side\t9\nA\t10\t10\t3\nB\t10\t14\t1\nC\t10\t20\t1\n' >"$desk/should/level.sheet"
-echo 'level.sheet: side 9 as given, small level, sites 3' >"$desk/said"
-files 'small, at side 9' 0 level.list small 9
-fresh examples/square.list
-{ printf 'side\tfree\n'; printf '3\n4\n2\n1\n' | paste examples/square.list -; } >"$desk/should/level.sheet"
-echo 'level.sheet: side free as given, small level, sites 4' >"$desk/said"
-files 'small, at side free' 0 level.list small free
-fresh tests/worst-ten.list
-cp tests/worst-ten.sheet "$desk/should/level.sheet"
-echo "level.sheet: $(head -n 1 tests/worst-ten.sheet | tr '\t' ' '), small level, sites 10" >"$desk/said"
-files 'tests/worst-ten.list small' 0 level.list small
-accepted small small.sheet
-files 'a list named small' 0 small
-accepted small small.sheet
-printf 'side\t12\nA\t10\t10\t3\nB\t10\t14\t1\nC\t10\t20\t1\n' >"$desk/should/small.sheet"
-echo 'small.sheet: side 12, small level, sites 3' >"$desk/said"
-files 'a list named small, small' 0 small small
-for side in 13 20000 free; do refusal_by 12 small "$made/example.list" "$side"; done
-for list in "$made/eleven.list" examples/level.list tests/longest.list; do
-    refusal_by 13 small "$list"
-    for side in 1 4 free; do refusal_by 13 small "$list" "$side"; done
-done
-refusal_by 3 small "$made/eleven.list" 0
-rm "$desk/here/level.sheet" "$desk/should/level.sheet"
-"$program" small <"$made/eleven.list" >"$made/answer" 2>"$desk/complained"
-complains 'level.list is refused, number 13'
-files 'refused 13 small, and there was no sheet' 1 level.list small
-# A program that takes no heed of the word
-written all-ones <<'END'
-#!/bin/sh
-printf 'side\t2\n'
-sed 's/$/\t1/'
-END
-with=$desk/bin/all-ones
-for list in "$made/eleven.list" tests/longest.list; do
-    for side in '' 2; do
-        fresh "$list"
-        complains 'the sheet of level.list has more than ten sites'
-        files "a sheet of more than ten sites small${side:+ at side $side}" 1 level.list small $side
-    done
-done
+echo 'usage: place [SIDE] < LIST > SHEET' >"$desk/complained"
+complains 'the sheet of level.list is not whole'
+files 'a program that does not know above' 1 level.list above
 with=$program
 
 # ---- clean-list

@@ -30,36 +30,17 @@ impl Counts {
     }
 }
 
-// How many lists have by a way a smaller, the same and a greater side than by the usual one, free being the greatest.
-#[derive(Drop)]
-pub struct Comparison {
-    pub smaller: u64,
-    pub same: u64,
-    pub greater: u64,
-}
-
-impl Comparison {
-    pub fn none() -> Comparison {
-        Comparison {
-            smaller: 0,
-            same: 0,
-            greater: 0,
-        }
-    }
-}
-
-// By each way, the last two compared with the usual one. Also how many lists are in one straight row; how many have a best side, which is
-// that for few sites, over twice the usual one, both being numbers; and how many a free one where the usual one is not free.
+// By each way. By the usual one also how many lists are in one straight row and have a choice over twice their side; above the spot, how
+// many have a smaller, the same and a greater side than by the usual way, free being the greatest.
 #[derive(Drop)]
 pub struct Tally {
     pub usual: Counts,
     pub in_one_row: u64,
-    pub above: Counts,
-    pub above_compared: Comparison,
-    pub small: Counts,
-    pub small_compared: Comparison,
     pub over_twice: u64,
-    pub free_alone: u64,
+    pub above: Counts,
+    pub smaller: u64,
+    pub same: u64,
+    pub greater: u64,
 }
 
 impl Tally {
@@ -67,12 +48,11 @@ impl Tally {
         Tally {
             usual: Counts::none(),
             in_one_row: 0,
-            above: Counts::none(),
-            above_compared: Comparison::none(),
-            small: Counts::none(),
-            small_compared: Comparison::none(),
             over_twice: 0,
-            free_alone: 0,
+            above: Counts::none(),
+            smaller: 0,
+            same: 0,
+            greater: 0,
         }
     }
 }
@@ -83,15 +63,6 @@ pub fn count(number: u64, yes: bool) -> u64 {
         std::num::wrapping_add_u64(number, 1)
     } else {
         number
-    }
-}
-
-// Counts a list with this usual side and this side by another way.
-pub fn compared(comparison: Comparison, usual: u64, side: u64) -> Comparison {
-    Comparison {
-        smaller: count(comparison.smaller, side < usual),
-        same: count(comparison.same, side == usual),
-        greater: count(comparison.greater, usual < side),
     }
 }
 
@@ -115,9 +86,6 @@ pub fn print_way(way: Way) {
         Way::Above => {
             io::write_all(1, b"above");
         }
-        Way::Small => {
-            io::write_all(1, b"small");
-        }
     }
 }
 
@@ -139,22 +107,15 @@ fn print_counts(way: Way, counts: Counts) {
     print_count(counts.differences_at, b" differences there\n");
 }
 
-fn print_comparison(comparison: Comparison) {
-    print_count(
-        comparison.smaller,
-        b" with a smaller side than the usual way\n",
-    );
-    print_count(comparison.same, b" with the same side\n");
-    print_count(comparison.greater, b" with a greater side\n");
-}
-
 pub fn print_tally(tally: Tally) {
     print_counts(Way::Usual, tally.usual);
     print_count(tally.in_one_row, b" in one straight row\n");
+    print_count(
+        tally.over_twice,
+        b" with a choice that holds at 2 x side + 1\n",
+    );
     print_counts(Way::Above, tally.above);
-    print_comparison(tally.above_compared);
-    print_counts(Way::Small, tally.small);
-    print_comparison(tally.small_compared);
-    print_count(tally.over_twice, b" with a side over twice the usual one\n");
-    print_count(tally.free_alone, b" free where the usual way is not\n");
+    print_count(tally.smaller, b" with a smaller side than the usual way\n");
+    print_count(tally.same, b" with the same side\n");
+    print_count(tally.greater, b" with a greater side\n");
 }

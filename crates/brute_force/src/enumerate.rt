@@ -158,8 +158,7 @@ fn choice_limit(sites: Sites, corners: [u8; 7], crowding: bool, floor: u64) -> u
     least
 }
 
-// The rules of a way: those of document 01; above the spot, document 02, L2: "any choice of 1 and 2 without meeting labels counts"; for few
-// sites, L5: "a choice of the four corners, crowded or not, with no two labels meeting".
+// The rules of a way: those of document 01; above the spot, document 02, L2: "any choice of 1 and 2 without meeting labels counts".
 fn rules_of(way: Way) -> Rules
     ensures { (1 ≤ result.last) × (result.last ≤ 4) }
 {
@@ -170,10 +169,6 @@ fn rules_of(way: Way) -> Rules
         },
         Way::Above => Rules {
             last: 2,
-            crowding: false,
-        },
-        Way::Small => Rules {
-            last: 4,
             crowding: false,
         },
     }
@@ -220,13 +215,13 @@ fn better(sites: Sites, rules: Rules, number: u64, best: Choice) -> Choice
     }
 }
 
-// Of all lists of corners, the first with the greatest limit. No limit is 0, since all places are distinct.
-fn best_choice(sites: Sites, rules: Rules) -> Choice
+// Of all lists of corners with a limit above `floor`, the first with the greatest limit. Where there is none the limit is `floor`.
+fn best_choice(sites: Sites, rules: Rules, floor: u64) -> Choice
     requires { (sites.n ≤ 7) × (1 ≤ rules.last) × (rules.last ≤ 4) }
 {
     let end = choices(sites.n, rules.last);
     let mut best = Choice {
-        limit: 0,
+        limit: floor,
         corners: [0u8; 7],
     };
     for number in 0..end {
@@ -240,7 +235,7 @@ pub fn enumerate(sites: Sites, way: Way) -> Answer
     requires { sites.n ≤ 7 }
     ensures { result.side ≤ 20001 }
 {
-    let best = best_choice(sites, rules_of(way));
+    let best = best_choice(sites, rules_of(way), 0);
     let corners = best.corners;
     Answer {
         side: lesser(best.limit, FREE),
@@ -264,4 +259,16 @@ pub fn enumerate_at(sites: Sites, way: Way, side: u64) -> Answer
         side,
         corners: [0u8; 7],
     }
+}
+
+// Some list of the four corners has no two labels that meet at 2 × side + 1; crowding plays no part.
+pub fn holds_over_twice(sites: Sites, side: u64) -> bool
+    requires { (sites.n ≤ 7) × (side ≤ 20001) }
+{
+    let crowded_or_not = Rules {
+        last: 4,
+        crowding: false,
+    };
+    let best = best_choice(sites, crowded_or_not, 2 * side);
+    2 * side < best.limit
 }

@@ -1,7 +1,7 @@
 // The sides to give for a list by a way: some around the distance of its first two sites, some around the side that it has that way, and
 // free. Where two labels begin to meet, or a label to crowd a site, another choice may be the first. The product has to refuse the side
-// next after its own. Above the spot and for few sites, where its side is exact for fractions too, no more is to be tried: the limits are
-// whole numbers, so what holds at a fraction greater than a side holds at the next side.
+// next after its own. Above the spot, where its side is exact for fractions too, no more is to be tried: the limits are whole numbers, so
+// what holds at a fraction greater than a side holds at the next side.
 ghost use Rattle.std.specs.Prelude.{◌≤◌};
 
 use crate::enumerate::{greater, lesser, same_direction};

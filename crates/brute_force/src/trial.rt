@@ -1,8 +1,8 @@
-// One list: the product's output and the one by enumeration, compared and counted, by each way.
+// One list: the product's output and the one by enumeration, compared and counted, both ways.
 ghost use Rattle.std.specs.Prelude.{◌≤◌};
 
-use crate::counts::{Counts, Tally, compared, count, is_even, is_free, is_odd, print_way};
-use crate::enumerate::{enumerate, enumerate_at};
+use crate::counts::{Counts, Tally, count, is_even, is_free, is_odd, print_way};
+use crate::enumerate::{enumerate, enumerate_at, holds_over_twice};
 use crate::given::{SIDES, given};
 use crate::lists::draw_sites;
 use crate::product::{put_output, put_output_at};
@@ -71,25 +71,17 @@ fn differs_at(sites: Sites, way: Way, right: Answer) -> bool
     false
 }
 
-// The best side and the usual one are numbers, and the best one is over twice the usual one. If so, the list is printed.
-fn over_twice(sites: Sites, usual: u64, best: u64) -> bool
-    requires { (sites.n ≤ 7) × (usual ≤ 20001) }
+// The side of the usual way is a number, and yet some choice holds at 2 × side + 1. If so, the list is printed.
+fn over_twice(sites: Sites, side: u64) -> bool
+    requires { (sites.n ≤ 7) × (side ≤ 20001) }
 {
-    if is_free(usual) || is_free(best) || best <= 2 * usual {
+    if is_free(side) {
         return false;
     }
-    print_list(b"the best side is over twice the usual one\n", sites);
-    true
-}
-
-// The best side is free and the usual one is not. If so, the list is printed.
-fn free_alone(sites: Sites, usual: u64, best: u64) -> bool
-    requires { sites.n ≤ 7 }
-{
-    if is_free(usual) || !is_free(best) {
+    if !holds_over_twice(sites, side) {
         return false;
     }
-    print_list(b"the best side is free and the usual one is not\n", sites);
+    print_list(b"a choice holds at 2 x side + 1\n", sites);
     true
 }
 
@@ -107,25 +99,20 @@ fn judged_by(counts: Counts, sites: Sites, way: Way, right: Answer) -> Counts
     after
 }
 
-// The same by each way; and counts what the list is and how its sides compare.
-pub fn judged(tally: Tally, sites: Sites, usual: Answer, above: Answer, small: Answer) -> Tally
+// The same by each way; and counts what the list is and how its two sides compare.
+pub fn judged(tally: Tally, sites: Sites, usual: Answer, above: Answer) -> Tally
     requires { (sites.n ≤ 7) × (usual.side ≤ 20001) }
 {
-    let side = usual.side;
     let mut after = tally;
     after.in_one_row = count(tally.in_one_row, in_one_row(sites));
-    let above_compared = compared(tally.above_compared, side, above.side);
-    let small_compared = compared(tally.small_compared, side, small.side);
-    after.above_compared = above_compared;
-    after.small_compared = small_compared;
-    after.over_twice = count(tally.over_twice, over_twice(sites, side, small.side));
-    after.free_alone = count(tally.free_alone, free_alone(sites, side, small.side));
+    after.over_twice = count(tally.over_twice, over_twice(sites, usual.side));
+    after.smaller = count(tally.smaller, above.side < usual.side);
+    after.same = count(tally.same, above.side == usual.side);
+    after.greater = count(tally.greater, usual.side < above.side);
     let by_usual = judged_by(tally.usual, sites, Way::Usual, usual);
     let by_above = judged_by(tally.above, sites, Way::Above, above);
-    let by_small = judged_by(tally.small, sites, Way::Small, small);
     after.usual = by_usual;
     after.above = by_above;
-    after.small = by_small;
     after
 }
 
@@ -160,13 +147,10 @@ pub fn trial(state: &mut u64, tally: Tally) -> Tally {
     let sites = draw_sites(state);
     let usual = enumerate(sites, Way::Usual);
     let above = enumerate(sites, Way::Above);
-    let small = enumerate(sites, Way::Small);
-    let mut after = judged(tally, sites, usual, above, small);
+    let mut after = judged(tally, sites, usual, above);
     let by_usual = judged_given(after.usual, sites, Way::Usual, usual.side);
     let by_above = judged_given(after.above, sites, Way::Above, above.side);
-    let by_small = judged_given(after.small, sites, Way::Small, small.side);
     after.usual = by_usual;
     after.above = by_above;
-    after.small = by_small;
     after
 }

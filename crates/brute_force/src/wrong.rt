@@ -1,11 +1,10 @@
-// Answers that are wrong for document 01's list A, B, C and for a column of seven sites. The side of A, B, C is 6 with corners 3, 1, 1,
-// above the spot 8 with 1, 1, 1, and for few sites 12 with 3, 1, 1. Judging the product by them is meant to tell of a difference each, so
-// that the stored output changes when the comparing breaks, or when a way is taken for another; and once of a best side over twice the
-// usual one, and once of one that is free where the usual one is not.
+// Answers that are wrong for document 01's list A, B, C, whose side is 6 with corners 3, 1, 1, and above the spot 8 with 1, 1, 1, and for a
+// column of seven sites. Judging the product by them is meant to tell of a difference each, so that the stored output changes when the comparing breaks, or when a way
+// is taken for the other.
 ghost use Rattle.std.specs.Prelude.{◌≡◌, ◌≤◌};
 
 use crate::counts::{Counts, Tally, print_tally};
-use crate::sites::{Answer, FREE, Place, Sites};
+use crate::sites::{Answer, Place, Sites};
 use crate::trial::{judged, judged_at};
 use placing::way::Way;
 
@@ -59,71 +58,33 @@ fn judged_at_sides(
     judged_at(two, column(), way, none)
 }
 
-// Judges by answers at the side found: first a usual side that is too great by one, and the usual answer by the other ways; then another
-// last corner, where the best side is just twice the usual one; then sides that are too small by one, where it is over twice.
-fn found_wrong(tally: Tally) -> Tally {
+// At the side found: first a side that is too small by one, so that a choice holds at twice it and one more, and above the spot the usual
+// answer; then another last corner. At the given side above the spot, the other corners are the usual ones there.
+pub fn print_wrong() {
+    io::write_all(1, b"meant to come out wrong:\n");
     let one = judged(
-        tally,
-        column(),
-        answer(7, 3, 1, 1),
-        answer(6, 3, 1, 1),
-        answer(6, 3, 1, 1),
-    );
-    let two = judged(
-        one,
-        column(),
-        answer(6, 3, 1, 2),
-        answer(8, 1, 1, 2),
-        answer(12, 3, 1, 2),
-    );
-    judged(
-        two,
+        Tally::none(),
         column(),
         answer(5, 3, 1, 1),
-        answer(7, 1, 1, 1),
-        answer(11, 3, 1, 1),
-    )
-}
-
-// The same at given sides. By the other ways, the other corners are the usual ones there.
-fn given_wrong(tally: Tally) -> Tally {
+        answer(6, 3, 1, 1),
+    );
+    let mut two = judged(one, column(), answer(6, 3, 1, 2), answer(8, 1, 1, 2));
     let usual = judged_at_sides(
-        tally.usual,
+        two.usual,
         Way::Usual,
         answer(5, 1, 1, 1),
         answer(7, 3, 1, 1),
         answer(6, 0, 0, 0),
     );
     let above = judged_at_sides(
-        tally.above,
+        two.above,
         Way::Above,
         answer(5, 3, 1, 1),
         answer(9, 1, 1, 1),
         answer(8, 0, 0, 0),
     );
-    let small = judged_at_sides(
-        tally.small,
-        Way::Small,
-        answer(5, 3, 1, 1),
-        answer(13, 3, 1, 1),
-        answer(12, 0, 0, 0),
-    );
-    let mut after = tally;
-    after.usual = usual;
-    after.above = above;
-    after.small = small;
-    after
-}
-
-pub fn print_wrong() {
-    io::write_all(1, b"meant to come out wrong:\n");
-    let abc = given_wrong(found_wrong(Tally::none()));
-    let last = judged(
-        abc,
-        seven(),
-        answer(1, 1, 1, 1),
-        answer(1, 1, 1, 1),
-        answer(FREE, 1, 1, 1),
-    );
+    two.usual = usual;
+    two.above = above;
+    let last = judged(two, seven(), answer(1, 1, 1, 1), answer(1, 1, 1, 1));
     print_tally(last);
 }

@@ -8,9 +8,6 @@ pub fn limit(name: &[u8]) -> u64 {
     if check::same(name, b"sites") {
         return Limits::SITES as u64;
     }
-    if check::same(name, b"small sites") {
-        return Limits::SMALL_SITES as u64;
-    }
     if check::same(name, b"coordinate") {
         return Limits::COORDINATE as u64;
     }

@@ -14,7 +14,7 @@ use crate::cases::asked_all;
 use libc::STDIN_FILENO;
 
 fn main() {
-    let mut cases = [0u8; 65536];
+    let mut cases = [0u8; 32768];
     let n = io::read_full(STDIN_FILENO, &mut cases);
     asked_all(&cases[..n]);
 }

@@ -1,8 +1,8 @@
 // A question: a call, a text in quotes where it takes one, and up to two numbers. Without quotes a text is as many bytes as the first
 // number says of the lines of too many sites. `find` and `place` take the size of a work table, `choose` the word of a side and that
 // size, `choose-number` the side as a number, in range or not. The text of `output-at` has the word of a side and a space in front.
-// These, and `output`, are asked by the usual way of placing, and by another where the word `above` or `small` stands in front of the
-// call. Anywhere else, or in front of another call, such a word makes the call an unknown one.
+// These, and `output`, are asked by the usual way of placing, and above where the word `above` stands in front of the call. Anywhere
+// else, or in front of another call, that word makes the call an unknown one.
 use crate::words::{are_numbers, first, from, number_in, unquoted};
 use placing::way::Way;
 
@@ -90,12 +90,11 @@ fn call_of(word: &[u8]) -> Call {
     placing_call(word)
 }
 
-// The call of a word by a way. By another than the usual one there are only those that take a way.
+// The call of a word by a way. Above there are only those that take a way.
 fn call_by(way: Way, word: &[u8]) -> Call {
     match way {
         Way::Usual => call_of(word),
         Way::Above => placing_call(word),
-        Way::Small => placing_call(word),
     }
 }
 
@@ -139,9 +138,6 @@ pub fn question_in(words: &[u8], text: &mut [u8]) -> Question {
     let end = first(words, b' ');
     if check::same(&words[..end], b"above") {
         return question_by(Way::Above, from(words, end + 1), text);
-    }
-    if check::same(&words[..end], b"small") {
-        return question_by(Way::Small, from(words, end + 1), text);
     }
     question_by(Way::Usual, words, text)
 }

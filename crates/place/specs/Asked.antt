@@ -1,37 +1,23 @@
 -- What the words behind the program's name ask for.
 -- Assumes nothing.
-use Rattle.std.specs.Prelude.{Bool, true, false, ◌&&◌, List, [], ◌∷◌, ℕ, zero, suc, leb, get_or}
+use Rattle.std.specs.Prelude.{Bool, true, false, ◌&&◌, [], ◌∷◌, ℕ, zero, suc, leb, get_or}
 use Rattle.placing.specs.declared.units.Side.{Side}
 use Rattle.placing.specs.declared.units.Side.TheVariants.{Number, Free}
 use Rattle.placing.specs.declared.way.Way.{Way}
-use Rattle.placing.specs.declared.way.Way.TheVariants.{Usual, Above, Small}
+use Rattle.placing.specs.declared.way.Way.TheVariants.{Usual, Above}
 use Rattle.plan.specs.rules.Text.{same_bytes}
 use Rattle.plan.specs.rules.Sheet.{side_in}
 use Rattle.plan.specs.calls.Given.{side_by_word}
 use Rattle.place.specs.declared.asked.At.{At}
 use Rattle.place.specs.declared.asked.At.TheVariants.{Found, Given}
-use Rattle.placing.specs.declared.way.GivenWay.{GivenWay}
-use Rattle.placing.specs.declared.way.GivenWay.TheVariants.{By, NoWay}
 use Rattle.place.specs.declared.asked.Task.{Task}
 use Rattle.place.specs.declared.asked.Task.TheVariants.{Place, Usage}
 use Rattle.desk.specs.declared.Word.{Word}
 use Rattle.desk.specs.Words.{bytes_in}
 
--- The words above and small.
-abbrev pub above_word : List ℕ
-above_word = 97 ∷ 98 ∷ 111 ∷ 118 ∷ 101 ∷ []
-
-abbrev pub small_word : List ℕ
-small_word = 115 ∷ 109 ∷ 97 ∷ 108 ∷ 108 ∷ []
-
--- The way that a word names, by which of these it is.
-abbrev pub named_by : (is-above is-small : Bool) → GivenWay
-named_by true is-small = By Above
-named_by false true = By Small
-named_by false false = NoWay
-
-abbrev pub way_named : Word → GivenWay
-way_named word = named_by (same_bytes (bytes_in word) above_word) (same_bytes (bytes_in word) small_word)
+-- It is the word above.
+abbrev pub is_above : Word → Bool
+is_above word = same_bytes (bytes_in word) (97 ∷ 98 ∷ 111 ∷ 118 ∷ 101 ∷ [])
 
 -- To place by a way, at a side.
 abbrev pub place_by : Way → At → Task
@@ -45,17 +31,9 @@ task_for way (Number side) first = elim (leb 48 first && leb first 57) [ true �
 abbrev pub side_task : Way → Word → Task
 side_task way word = task_for way (side_by_word (side_in (bytes_in word))) (get_or word.bytes 0 0)
 
--- By the number of words and the first two of them: nothing, `above`, `small`, `SIDE`, `above SIDE`, `small SIDE`.
-abbrev pub one_asks : GivenWay → (one : Word) → Task
-one_asks (By way) one = place_by way Found
-one_asks NoWay one = side_task Usual one
-
-abbrev pub two_ask : GivenWay → (two : Word) → Task
-two_ask (By way) two = side_task way two
-two_ask NoWay two = Usage
-
+-- By the number of words and the first two of them: nothing, `above`, `SIDE`, `above SIDE`.
 abbrev pub task_of : ℕ → (one two : Word) → Task
 task_of zero one two = place_by Usual Found
-task_of (suc zero) one two = one_asks (way_named one) one
-task_of (suc (suc zero)) one two = two_ask (way_named one) two
+task_of (suc zero) one two = elim (is_above one) [ true ↦ place_by Above Found | false ↦ side_task Usual one ]
+task_of (suc (suc zero)) one two = elim (is_above one) [ true ↦ side_task Above two | false ↦ Usage ]
 task_of (suc (suc (suc words))) one two = Usage

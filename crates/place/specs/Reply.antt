@@ -54,7 +54,7 @@ Replied way at start room (Unread reading) buffer = CutShort start room reading
 
 -- The list is refused, with some number.
 abbrev pub IsRefused : Way → At → List ℕ → Type 0
-IsRefused way Found text = (number : ℕ) × ListRefused way text number
+IsRefused way Found text = (number : ℕ) × ListRefused text number
 IsRefused way (Given side) text = (number : ℕ) × RefusedAt way side text number
 
 -- The bytes read lie within the room, and what is to be written within the buffer. Where that starts with the letter r, of the word

@@ -125,7 +125,7 @@ last-read (once_more {r = r} {room = before} reads left behind) =
 
 -- What is explained is a refused list: without a side it is refused, and at a side there.
 pub explained-refused : {way : Way} (at : At) {text : List ℕ} → IsRefused way at text
-    → ((at ≡ Found → (number : ℕ) × ListRefused way text number)
+    → ((at ≡ Found → (number : ℕ) × ListRefused text number)
     × ((side : Side) → at ≡ Given side → (number : ℕ) × RefusedAt way side text number))
 explained-refused {way} at {text} refused =
     (λ is. subst (λ (a : At). IsRefused way a text) is refused, λ side is. subst (λ (a : At). IsRefused way a text) is refused)

@@ -1,11 +1,11 @@
 // What the program is asked for by the words behind its name.
 ghost use Rattle.std.specs.Prelude.{◌≡◌};
 ghost use Rattle.desk.specs.Words.{Counted};
-ghost use Rattle.place.specs.Asked.{place_by, way_named, side_task, task_of};
+ghost use Rattle.place.specs.Asked.{place_by, is_above, side_task, task_of};
 
 use desk::{Word, word_at, word_count};
 use placing::units::Side;
-use placing::way::{GivenWay, Way};
+use placing::way::Way;
 use plan::name::same_bytes;
 use plan::number::side_from;
 
@@ -36,20 +36,13 @@ fn place_by(way: Way, at: At) -> Task
     Task::Place(How { way, at })
 }
 
-// The way that a word names, where it names one.
-fn way_named(word: Word) -> GivenWay
+fn is_above(word: Word) -> bool
     requires { Counted word }
-    ensures { result ≡ way_named word }
+    ensures { result ≡ is_above word }
 {
     let bytes = word.bytes;
     let n = word.len;
-    if same_bytes(&bytes[..n], b"above") {
-        return GivenWay::By(Way::Above);
-    }
-    if same_bytes(&bytes[..n], b"small") {
-        return GivenWay::By(Way::Small);
-    }
-    GivenWay::NoWay
+    same_bytes(&bytes[..n], b"above")
 }
 
 // The word free, and a word that starts with a digit, ask for the side that they write, be it one or not; other words ask for none.
@@ -84,12 +77,11 @@ fn words_asked(words: usize, one: Word, two: Word) -> Task
     if words > 2 {
         return Task::Usage;
     }
-    let named = way_named(one);
-    if let GivenWay::By(way) = named {
+    if is_above(one) {
         if words == 1 {
-            return place_by(way, At::Found);
+            return place_by(Way::Above, At::Found);
         }
-        return side_asked(way, two);
+        return side_asked(Way::Above, two);
     }
     if words == 1 {
         return side_asked(Way::Usual, one);

@@ -5,9 +5,7 @@ use crate::asked::{At, How};
 use desk::tell;
 use hints::{Explanation, Hint, explain};
 use libc::STDERR_FILENO;
-use placing::way::Way;
-use plan::calls::{count, is_side, too_many};
-use plan::list::read;
+use plan::calls::is_side;
 use plan::refusal::Refusal;
 
 // The rule in words. The table of a line (`line_tests`) has no refusals but these six.
@@ -64,28 +62,20 @@ fn is_outside(at: At) -> bool {
     }
 }
 
-// Why a list of which every line is accepted is refused.
-fn tell_unplaced(text: &[u8], way: Way) {
-    let listed = read(text);
-    let plan = listed.plan;
-    let sites = count(plan);
-    if sites == 0 {
+// Why a list of which every line is accepted, and which has so many bytes, is refused.
+fn tell_unplaced(bytes: usize) {
+    if bytes == 0 {
         tell(b"place: placing a plan of no sites\n");
-        return;
+    } else {
+        tell(b"place: no good choice exists at the given side\n");
     }
-    if too_many(way, sites) {
-        tell(b"place: the plan has more than ten sites: a small level has at most ten\n");
-        return;
-    }
-    tell(b"place: no good choice exists at the given side\n");
 }
 
-// Why this list is refused: for the side, at its first refused line, since it has no sites, too many or no good choice.
+// Why this list is refused: for the side, at its first refused line, since it has no sites or no good choice.
 pub(crate) fn tell_refused(text: &[u8], how: How)
     requires { IsRefused how.way how.at text.now }
 {
     let at = how.at;
-    let way = how.way;
     if is_outside(at) {
         tell(
             b"place: a side outside the range: it is a number from 1 to 20000, with no leading zero, or the word free\n",
@@ -94,7 +84,7 @@ pub(crate) fn tell_refused(text: &[u8], how: How)
     }
     let explained = explain(text);
     let Explanation::Line(number, why, hint) = explained else {
-        tell_unplaced(text, way);
+        tell_unplaced(text.len());
         return;
     };
     tell(b"place: line ");

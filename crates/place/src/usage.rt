@@ -1,13 +1,12 @@
-// What the program does, for whoever starts it with other words than above, small and a side.
+// What the program does, for whoever starts it with other words than above and a side.
 use desk::tell;
 
 pub(crate) fn tell_usage() {
-    tell(b"usage: place [above | small] [SIDE] < LIST > SHEET\n");
+    tell(b"usage: place [above] [SIDE] < LIST > SHEET\n");
     tell(b"Places a square label for each site of a car park level. Without SIDE the labels\n");
     tell(b"get the greatest side; with SIDE, a number of half units from 1 to 20000 or the\n");
     tell(b"word free, they get that one, where a good choice of corners exists. With the\n");
-    tell(b"word above every label lies above its spot, at corner 1 or 2. With the word small\n");
-    tell(b"a list of at most ten sites gets the best side that any choice of corners has.\n");
+    tell(b"word above every label lies above its spot, at corner 1 or 2.\n");
     tell(b"LIST has one site a line: name, x, y, with one tab between them, and a line feed\n");
     tell(b"at the end of each line. A name is 1 to 8 of A to Z, 0 to 9 and hyphen; x and y\n");
     tell(b"are whole units from 0 to 10000. At most 240 sites; no name and no place twice.\n");

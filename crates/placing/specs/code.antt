@@ -14,6 +14,5 @@ pub mod CarryOn
 pub mod Fresh
 pub mod Walking
 pub mod Chosen
-pub mod Backtracking
 pub mod Placed
 pub mod Bisect

@@ -8,5 +8,3 @@ pub mod Tests
 pub mod Enumerate
 -- The answer by that search.
 pub mod Answer
--- The first good choice by a search that goes back.
-pub mod Pruned

@@ -16,10 +16,8 @@ pub mod Supremum
 pub mod AtMostTwo
 -- At sides greater than twice that of the answer by the usual way, every choice has two labels that meet.
 pub mod FactorTwo
--- At sides greater than the one found without crowding, no choice of the way's corners keeps its labels apart.
+-- At sides greater than the one found above the spot, no choice of corners 1 and 2 keeps its labels apart.
 pub mod ExactSide
--- The best side, that of a small level: the usual way finds at least half of it.
-pub mod Best
--- The search that goes back finds the first good choice; a test of an answer that a checker can run.
+-- A search for the first good choice that a checker can run, and a test of an answer by it.
 pub mod PrunedSearch
 pub mod CheckedAnswer

@@ -1,22 +1,20 @@
 // Choosing at a side: the walk in list order, in which each undecided site takes the lowest open corner whose trial does not
-// fail; on a small level, backtracking. What either yields is the first good choice.
+// fail. What it yields is the first good choice.
 ghost use Rattle.std.specs.Prelude.{◌≡◌, ◌++◌, ◌+◌, ◌-◌, ◌≤◌, ◌<◌, take, replicate};
 ghost use Rattle.placing.specs.rules.Units.{most_sites};
 ghost use Rattle.placing.specs.calls.Placing.{choice_as};
 ghost use Rattle.placing.specs.deciding.Answer.{first_good};
-ghost use Rattle.placing.specs.declared.way.Way.TheVariants.{Small};
-ghost use Rattle.placing.specs.code.Sites.{Held, sites_of};
-ghost use Rattle.placing.specs.code.Labels.{way_of, labels};
+ghost use Rattle.placing.specs.code.Sites.{sites_of};
+ghost use Rattle.placing.specs.code.Labels.{labels};
 ghost use Rattle.placing.specs.code.Steps.{Tried, WalkedTo, Kept};
 ghost use Rattle.placing.specs.code.Asks.{MayWalk, MayDecide, MayChoose, MayChooseAt};
 ghost use Rattle.placing.specs.code.Chosen.{choice_in};
 
-use crate::backtracking::go_on;
 use crate::crowding::{Crowding, reaches_of};
 use crate::fresh::fresh_state;
 use crate::trial::try_corner;
 use crate::units::{HalfUnits, Limits};
-use crate::way::{TwoWay, Way};
+use crate::way::Way;
 
 // Whether a good choice exists at a side, and the first one: the corner of each site in list order, 0 past the last and where none exists.
 #[derive(Drop)]
@@ -37,7 +35,7 @@ fn try_open(
     xs: &[u32; Limits::SITES],
     ys: &[u32; Limits::SITES],
     n: usize,
-    way: TwoWay,
+    way: Way,
     side: HalfUnits,
     opens: &mut [u8; Limits::ALL_CORNERS],
     decided: &mut [u8; Limits::SITES],
@@ -73,7 +71,7 @@ fn choose_corner(
     xs: &[u32; Limits::SITES],
     ys: &[u32; Limits::SITES],
     n: usize,
-    way: TwoWay,
+    way: Way,
     side: HalfUnits,
     opens: &mut [u8; Limits::ALL_CORNERS],
     decided: &mut [u8; Limits::SITES],
@@ -101,7 +99,7 @@ fn walk(
     xs: &[u32; Limits::SITES],
     ys: &[u32; Limits::SITES],
     n: usize,
-    way: TwoWay,
+    way: Way,
     side: HalfUnits,
     opens: &mut [u8; Limits::ALL_CORNERS],
     decided: &mut [u8; Limits::SITES],
@@ -120,46 +118,7 @@ fn walk(
     true
 }
 
-// The first good choice at a side by the walk, or none.
-fn walked(
-    xs: &[u32; Limits::SITES],
-    ys: &[u32; Limits::SITES],
-    n: usize,
-    way: TwoWay,
-    crowding: Crowding,
-    side: HalfUnits,
-    marks: &mut [u8],
-) -> Chosen
-    requires { MayChoose n xs.now ys.now (way_of way) side crowding marks.old }
-    ensures first { choice_in n result ≡ first_good (way_of way) side.0 (sites_of n xs.now ys.now) }
-    ensures kept { Kept n marks.old marks.new }
-{
-    let fresh = fresh_state(crowding, n, side);
-    let mut opens = fresh.opens;
-    let mut decided = fresh.decided;
-    let ok = walk(xs, ys, n, way, side, &mut opens, &mut decided, marks);
-    Chosen {
-        ok,
-        corners: decided,
-    }
-}
-
-// The first good choice at a side by backtracking, or none.
-fn backtracked(
-    xs: &[u32; Limits::SITES],
-    ys: &[u32; Limits::SITES],
-    n: usize,
-    side: HalfUnits,
-) -> Chosen
-    requires { Held n xs.now ys.now side }
-    ensures { choice_in n result ≡ first_good Small side.0 (sites_of n xs.now ys.now) }
-{
-    let mut corners = [0u8; Limits::SITES];
-    let ok = go_on(xs, ys, n, side, &mut corners, n);
-    Chosen { ok, corners }
-}
-
-// The first good choice at a side by a way, or none.
+// The first good choice at a side, or none.
 pub(crate) fn choose(
     xs: &[u32; Limits::SITES],
     ys: &[u32; Limits::SITES],
@@ -173,10 +132,13 @@ pub(crate) fn choose(
     ensures first { choice_in n result ≡ first_good way side.0 (sites_of n xs.now ys.now) }
     ensures kept { Kept n marks.old marks.new }
 {
-    match way {
-        Way::Usual => walked(xs, ys, n, TwoWay::Equal, crowding, side, marks),
-        Way::Above => walked(xs, ys, n, TwoWay::Both, crowding, side, marks),
-        Way::Small => backtracked(xs, ys, n, side),
+    let fresh = fresh_state(crowding, n, side);
+    let mut opens = fresh.opens;
+    let mut decided = fresh.decided;
+    let ok = walk(xs, ys, n, way, side, &mut opens, &mut decided, marks);
+    Chosen {
+        ok,
+        corners: decided,
     }
 }
 

@@ -1,14 +1,14 @@
 // How far each corner reaches before it is crowded. This does not depend on the side that is tried, so it is found once for all of
-// them. Where all four corners of a site are crowded there is no good choice: so the reaches also bound the side. Above the spot
-// crowding plays no part, and the reaches say which corners there are; on a small level the top alone is looked at.
-ghost use Rattle.std.specs.Prelude.{◌≡◌, List, ℕ, ◌+◌, ◌*◌, ◌≤◌, ◌<◌, length};
+// them. Where all four corners of a site are crowded there is no good choice: so the reaches also bound the side. Above the spot, where
+// crowding plays no part, the reaches say which corners there are.
+ghost use Rattle.std.specs.Prelude.{◌≡◌, List, ◌+◌, ◌*◌, ◌≤◌, ◌<◌, length};
 ghost use Rattle.placing.specs.rules.Units.{most_sites};
 ghost use Rattle.placing.specs.rules.Corner.{Corner};
 ghost use Rattle.placing.specs.code.Sites.{Held, Judged, sites_of};
 ghost use Rattle.placing.specs.code.Reach.{distance_between, Lowered};
 ghost use Rattle.placing.specs.code.Pairs.{SiteLowered, MayLower, PairLowered, RowsBelow, ReachesOver};
 ghost use Rattle.placing.specs.declared.units.Place.{Place};
-ghost use Rattle.placing.specs.declared.way.Way.TheVariants.{Usual, Above, Small};
+ghost use Rattle.placing.specs.declared.way.Way.TheVariants.{Usual, Above};
 ghost use Rattle.placing.specs.code.Crowding.{TopLeft, CrowdingIs, UpperReach};
 
 use crate::geometry::{distance, distance_between, lies_toward};
@@ -151,18 +151,6 @@ fn upper_corners(n: usize, most: HalfUnits) -> Crowding
     Crowding { reaches, top: most }
 }
 
-// The reaches by which every corner is open at every side up to `most`.
-fn all_corners(most: HalfUnits) -> Crowding
-    requires { Judged most }
-    ensures { (ps : List Place) (n : ℕ) → n ≤ most_sites → CrowdingIs Small most.0 ps n result }
-{
-    let furthest = most.doubled();
-    Crowding {
-        reaches: [furthest.0; Limits::ALL_CORNERS],
-        top: most,
-    }
-}
-
 // The reaches of all sites by a way, for sides up to `most`, and the top.
 pub(crate) fn reaches_of(
     xs: &[u32; Limits::SITES],
@@ -177,6 +165,5 @@ pub(crate) fn reaches_of(
     match way {
         Way::Usual => crowding_of(xs, ys, n, most),
         Way::Above => upper_corners(n, most),
-        Way::Small => all_corners(most),
     }
 }

@@ -1,5 +1,4 @@
 // Square labels for sites: what the documents rule of corners, meeting, crowding, sides and ways. Nothing here knows names or text.
-pub mod backtracking;
 pub mod choice;
 pub mod corner;
 pub mod crowding;

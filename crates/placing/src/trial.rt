@@ -9,7 +9,7 @@ ghost use Rattle.placing.specs.search.Rows.{row_of};
 ghost use Rattle.placing.specs.code.Labels.{labels};
 ghost use Rattle.placing.specs.deciding.Decides.{Decides};
 ghost use Rattle.placing.specs.code.Sites.{site_in, HasPlace, Judged};
-ghost use Rattle.placing.specs.declared.way.TwoWay.{TwoWay};
+ghost use Rattle.placing.specs.declared.way.Way.{Way};
 ghost use Rattle.placing.specs.search.State.{Every, Only};
 ghost use Rattle.placing.specs.code.Steps.{Sizes, one_more, LeftIs, TakenCorner, ClosedCorner, label_at, Clash, CarriedThere, CarriedOut};
 ghost use Rattle.placing.specs.code.Steps.{Waits, FirstWaiting, Kept, mark_of, Marked, CarriedOn, Tried};
@@ -19,7 +19,7 @@ use crate::corner::{Directions, directions_of};
 use crate::geometry::{Label, distance, growth};
 use crate::sites::{index_of, place_at};
 use crate::units::{HalfUnits, Limits};
-use crate::way::TwoWay;
+use crate::way::Way;
 
 // Which corners of a site are open: nothing, one, or more.
 #[derive(Drop)]
@@ -77,25 +77,9 @@ fn close_corner(
     }
 }
 
-// The label at corner `c` of site `i`.
-pub(crate) fn label_of(
-    xs: &[u32; Limits::SITES],
-    ys: &[u32; Limits::SITES],
-    i: usize,
-    c: u8,
-) -> Label
-    requires { HasPlace xs.now ys.now i × Corner c }
-    ensures { result ≡ label_at (site_in xs.now ys.now i) c }
-{
-    Label {
-        site: place_at(xs[i], ys[i]),
-        toward: directions_of(c),
-    }
-}
-
 // The label of site `k`, `own`, clashes with the one of site `j` in these directions: they are two sites, and the side exceeds how far the
-// two labels grow. Most sites lie too far away along x or along y, so that is asked first.
-pub(crate) fn clash(
+// two labels grow. Most sites lie too far away along x, so that is asked first.
+fn clash(
     xs: &[u32; Limits::SITES],
     ys: &[u32; Limits::SITES],
     side: HalfUnits,
@@ -111,9 +95,6 @@ pub(crate) fn clash(
     let s = own.site;
     let t = place_at(xs[j], ys[j]);
     if side.doubled().at_most(distance(s.x, t.x)) {
-        return false;
-    }
-    if side.doubled().at_most(distance(s.y, t.y)) {
         return false;
     }
     let other = Label { site: t, toward };
@@ -138,7 +119,7 @@ fn carry_to(
     toward: Directions,
 ) -> bool
     requires { MayCarryTo xs.now ys.now side opens.old decided.old k own j e toward }
-    ensures { (way : TwoWay) (n : ℕ) → CarriedThere (labels way side.0 n xs.now ys.now) (Only e)
+    ensures { (way : Way) (n : ℕ) → CarriedThere (labels way side.0 n xs.now ys.now) (Only e)
         opens.old decided.old k j result opens.new decided.new }
 {
     let at = index_of(j, e);
@@ -164,10 +145,13 @@ fn carry_corner(
     from: usize,
 ) -> bool
     requires { MayCarryCorner n xs.now ys.now side opens.old decided.old k e from }
-    ensures { (way : TwoWay) → CarriedOut (labels way side.0 n xs.now ys.now) (Only e)
+    ensures { (way : Way) → CarriedOut (labels way side.0 n xs.now ys.now) (Only e)
         opens.old decided.old k result opens.new decided.new }
 {
-    let own = label_of(xs, ys, k, decided[k]);
+    let own = Label {
+        site: place_at(xs[k], ys[k]),
+        toward: directions_of(decided[k]),
+    };
     let toward = directions_of(e);
     for j in from..n {
         if !carry_to(xs, ys, side, opens, decided, k, own, j, e, toward) {
@@ -182,7 +166,7 @@ fn carry_out(
     xs: &[u32; Limits::SITES],
     ys: &[u32; Limits::SITES],
     n: usize,
-    way: TwoWay,
+    way: Way,
     side: HalfUnits,
     opens: &mut [u8; Limits::ALL_CORNERS],
     decided: &mut [u8; Limits::SITES],
@@ -195,8 +179,8 @@ fn carry_out(
 {
     let c = decided[k];
     match way {
-        TwoWay::Equal => carry_corner(xs, ys, n, side, opens, decided, k, c, from),
-        TwoWay::Both => {
+        Way::Usual => carry_corner(xs, ys, n, side, opens, decided, k, c, from),
+        Way::Above => {
             if !carry_corner(xs, ys, n, side, opens, decided, k, 1, from) {
                 return false;
             }
@@ -234,7 +218,7 @@ fn mark_and_carry(
     xs: &[u32; Limits::SITES],
     ys: &[u32; Limits::SITES],
     n: usize,
-    way: TwoWay,
+    way: Way,
     side: HalfUnits,
     opens: &mut [u8; Limits::ALL_CORNERS],
     decided: &mut [u8; Limits::SITES],
@@ -257,7 +241,7 @@ fn carry_on(
     xs: &[u32; Limits::SITES],
     ys: &[u32; Limits::SITES],
     n: usize,
-    way: TwoWay,
+    way: Way,
     side: HalfUnits,
     opens: &mut [u8; Limits::ALL_CORNERS],
     decided: &mut [u8; Limits::SITES],
@@ -321,7 +305,7 @@ pub(crate) fn try_corner(
     xs: &[u32; Limits::SITES],
     ys: &[u32; Limits::SITES],
     n: usize,
-    way: TwoWay,
+    way: Way,
     side: HalfUnits,
     opens: &mut [u8; Limits::ALL_CORNERS],
     decided: &mut [u8; Limits::SITES],

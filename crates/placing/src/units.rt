@@ -52,8 +52,6 @@ pub struct Limits();
 impl Limits {
     // The most sites of a plan.
     pub const SITES: usize = 240;
-    // The most sites of a small level: document 02, L5.
-    pub const SMALL_SITES: usize = 10;
     // The corners of a site.
     pub const CORNERS: usize = 4;
     // A place for each corner of each site, one site after another.

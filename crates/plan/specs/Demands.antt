@@ -5,7 +5,7 @@ use Rattle.std.proofs.Math.Option.{some}
 use Rattle.placing.specs.declared.units.Side.{Side}
 use Rattle.placing.specs.declared.units.Side.TheVariants.{Free}
 use Rattle.placing.specs.declared.way.Way.{Way}
-use Rattle.placing.specs.declared.way.Way.TheVariants.{Usual, Above, Small}
+use Rattle.placing.specs.declared.way.Way.TheVariants.{Usual, Above}
 use Rattle.placing.specs.rules.Choice.{Corners, UpperCorners, MeetingPair, SomeGood}
 use Rattle.placing.specs.rules.Answer.{Answer, is_side, judged_at, side_number, IsAnswer, IsChosen}
 use Rattle.plan.specs.declared.list.RefusedLine.{RefusedLine}
@@ -21,7 +21,7 @@ use Rattle.plan.specs.rules.Refusal.{number_of, number_by, accepted}
 use Rattle.plan.specs.rules.List.{Site, places_of, list_text, enter_tests, wanted_at, TextLine, FirstLine, line_tests, Reads}
 use Rattle.plan.specs.rules.Sheet.{sheet_with, side_on, number_on, spots_on, carried, refusal_line}
 use Rattle.plan.specs.deciding.Output.{output_of, exists_at, output_at}
-use Rattle.plan.specs.rules.Calls.{too_many_test, Takes, finding_tests, choosing_tests, cleared, side_tests, corner_tests, write_tests}
+use Rattle.plan.specs.rules.Calls.{finding_tests, choosing_tests, cleared, side_tests, corner_tests, write_tests}
 use Rattle.plan.specs.calls.Plan.{unplaced_plan, placed_with, placed_plan, sites_in}
 use Rattle.plan.specs.calls.Answers.{outcome_number, side_asked_number, corner_asked_number, written_number, sheet_for, started}
 
@@ -37,16 +37,16 @@ pub record Refuses {Given : Type 0} (given number : ℕ) (before after : Given) 
 abbrev pub EnterTold : Plan → List ℕ → (x y : ℕ) → Planned → Type 0
 EnterTold plan name x y r = Refuses (outcome_number r.outcome) (number_by (enter_tests (sites_in plan) (wanted_at name x y))) plan r.plan
 
--- "Placing tests 8, 11": so does finding the side, by each way of placing: L2 and L5 add theirs "with the table and refusals of L1", and L5
--- 13, "tested after 8". It is lent a work table, and the plan stays with the caller.
-abbrev pub FindTold : Plan → Way → List ℕ → AskedSide → List ℕ → Type 0
-FindTold plan way table r after =
-    Refuses (side_asked_number r) (number_by (finding_tests way plan.count (length table))) table after
+-- "Placing tests 8, 11": so does finding the side, by either way of placing: L2 adds a second one "with the table and refusals of L1". It is
+-- lent a work table, and the plan stays with the caller.
+abbrev pub FindTold : Plan → List ℕ → AskedSide → List ℕ → Type 0
+FindTold plan table r after =
+    Refuses (side_asked_number r) (number_by (finding_tests plan.count (length table))) table after
 
--- L1, choosing at a given side: 3, 8, 13, 11, 12, where 12 looks at the choices that count by the way, and 13 at the way. A refusal hands
--- back the plan as it came, and the table too; "12, unlike other refusals", leaves the table as choosing does.
+-- L1, choosing at a given side: 3, 8, 11, 12, where 12 looks at the choices that count by the way. A refusal hands back the plan as it
+-- came, and the table too; "12, unlike other refusals", leaves the table as choosing does.
 pub record ChooseTold (plan : Plan) (way : Way) (side : Side) (table : List ℕ) (r : Planned) (after : List ℕ) : Type 0 where
-  pub number_is : outcome_number r.outcome ≡ number_by (choosing_tests way side plan.count (length table) (exists_at way side (sites_in plan)))
+  pub number_is : outcome_number r.outcome ≡ number_by (choosing_tests side plan.count (length table) (exists_at way side (sites_in plan)))
   pub plan_kept : (outcome_number r.outcome ≡ 0 → ⊥) → r.plan ≡ plan
   pub table_kept : (outcome_number r.outcome ≡ 0 → ⊥) → (outcome_number r.outcome ≡ 12 → ⊥) → after ≡ table
   pub table_cleared : (outcome_number r.outcome ≡ 0) ⊎ (outcome_number r.outcome ≡ 12) → after ≡ cleared plan.count table
@@ -101,33 +101,32 @@ pub data StopTold (text : List ℕ) : Stop → Type 0 where
   at_a_line : {stop : RefusedLine} → StopsAt text stop → StopTold text (AtLine stop)
   at_no_line : {sites : List Site} → Reads [] text (accepted sites) → StopTold text Nowhere
 
--- A list that is accepted and has some sites, by the small way at most ten.
-pub record Accepts (way : Way) (text : List ℕ) (sites : List Site) : Type 0 where
+-- A list that is accepted and has some sites.
+pub record Accepts (text : List ℕ) (sites : List Site) : Type 0 where
   pub read : Reads [] text (accepted sites)
-  pub takes : Takes way (length sites)
+  pub some_sites : 1 ≤ length sites
 
--- Every other list is refused, with a number: that of its first refused line; or 8, since "an empty text is a list of no sites"; or 13.
-pub data ListRefused (way : Way) (text : List ℕ) : ℕ → Type 0 where
-  at_line : {number : ℕ} → FirstRefused text number → ListRefused way text number
-  of_no_sites : text ≡ [] → ListRefused way text 8
-  too_many : (sites : List Site) → Reads [] text (accepted sites) → too_many_test way (length sites) ≡ true → ListRefused way text 13
+-- Every other list is refused, with a number: that of its first refused line, or 8. "An empty text is a list of no sites."
+pub data ListRefused (text : List ℕ) : ℕ → Type 0 where
+  at_line : {number : ℕ} → FirstRefused text number → ListRefused text number
+  of_no_sites : text ≡ [] → ListRefused text 8
 
 -- Reading a list and placing it by a way.
 pub data ListTold (way : Way) (text : List ℕ) (r : Planned) : Type 0 where
-  list_refused : ListRefused way text (outcome_number r.outcome) → r.plan ≡ started → ListTold way text r
-  list_is_placed : (sites : List Site) → Accepts way text sites → outcome_number r.outcome ≡ 0 → r.plan ≡ placed_plan way sites
+  list_refused : ListRefused text (outcome_number r.outcome) → r.plan ≡ started → ListTold way text r
+  list_is_placed : (sites : List Site) → Accepts text sites → outcome_number r.outcome ≡ 0 → r.plan ≡ placed_plan way sites
       → ListTold way text r
 
--- L1: the same at a given side. 3 is tested first, before any line of the list; 12 last.
+-- L1: the same at a given side. 3 is tested first, before any line of the list; 12 after 8.
 pub data RefusedAt (way : Way) (side : Side) (text : List ℕ) : ℕ → Type 0 where
   out_of_range : is_side side ≡ false → RefusedAt way side text 3
-  refused_list : is_side side ≡ true → {number : ℕ} → ListRefused way text number → RefusedAt way side text number
-  none_good : is_side side ≡ true → (sites : List Site) → Accepts way text sites → (SomeGood way (judged_at side) (places_of sites) → ⊥)
+  refused_list : is_side side ≡ true → {number : ℕ} → ListRefused text number → RefusedAt way side text number
+  none_good : is_side side ≡ true → (sites : List Site) → Accepts text sites → (SomeGood way (judged_at side) (places_of sites) → ⊥)
       → RefusedAt way side text 12
 
 pub data ListToldAt (way : Way) (side : Side) (text : List ℕ) (r : Planned) : Type 0 where
   is_refused_at : RefusedAt way side text (outcome_number r.outcome) → r.plan ≡ started → ListToldAt way side text r
-  list_is_placed_at : (sites : List Site) (corners : List ℕ) → Accepts way text sites
+  list_is_placed_at : (sites : List Site) (corners : List ℕ) → Accepts text sites
       → IsChosen way (places_of sites) (record { side = side; corners = corners }) → outcome_number r.outcome ≡ 0
       → r.plan ≡ placed_with sites way (record { side = side; corners = corners }) → ListToldAt way side text r
 
@@ -139,29 +138,21 @@ pub record NoRival (sheet : List ℕ) : Type 0 where
   pub rivals_meet : (number p q : ℕ) → number_on sheet ≡ some number → 1 ≤ q → 2 * number * q < p
       → (corners : List ℕ) → Corners (length (spots_on sheet)) corners → MeetingPair p q (spots_on sheet) corners
 
--- ---- document 02, L2 and L5: what is guaranteed of a sheet placed another way
+-- ---- document 02, L2: what is guaranteed of a sheet placed above the spot only
 
--- A rival has such corners, one for each line, with any side p/q greater than the number itself, that is p > number × q.
-pub record NoGreater (Choice : ℕ → List ℕ → Type 0) (sheet : List ℕ) : Type 0 where
+-- "The side is therefore the greatest that anybody can have under those two corners, and that is to be proved, for fractions too." A rival
+-- has corners 1 and 2, one for each line, with any side p/q greater than the number, that is p > number × q.
+pub record NoRivalAbove (sheet : List ℕ) : Type 0 where
   pub rivals_meet : (number p q : ℕ) → number_on sheet ≡ some number → 1 ≤ q → number * q < p
-      → (corners : List ℕ) → Choice (length (spots_on sheet)) corners → MeetingPair p q (spots_on sheet) corners
+      → (corners : List ℕ) → UpperCorners (length (spots_on sheet)) corners → MeetingPair p q (spots_on sheet) corners
 
--- L5, of a small level: "the found side of the usual way is at least half of it, and free where it is free". That is the side of the usual
--- answer for the spots on the sheet.
-pub record UsualHalf (sheet : List ℕ) : Type 0 where
-  pub at_least_half : {usual : Answer} → IsAnswer Usual (spots_on sheet) usual → (number half : ℕ) → number_on sheet ≡ some number
-      → side_number usual.side ≡ some half → number ≤ 2 * half
-  pub free_too : {usual : Answer} → IsAnswer Usual (spots_on sheet) usual → side_on sheet ≡ some Free → usual.side ≡ Free
-
--- What each way guarantees of a sheet. The usual one demand 3. Above the spot "the side is therefore the greatest that anybody can have under
--- those two corners, and that is to be proved, for fractions too", where "the twice-the-side guarantee over all four corners does not cover
--- sheets placed this way". On a small level "no fraction above this side is possible", with any corners.
+-- What each way guarantees of a sheet: demand 3 the usual one, and "the twice-the-side guarantee over all four corners does not cover sheets
+-- placed this way".
 abbrev pub Guarantee : Way → List ℕ → Type 0
 Guarantee Usual sheet = NoRival sheet
-Guarantee Above sheet = NoGreater UpperCorners sheet
-Guarantee Small sheet = NoGreater Corners sheet × UsualHalf sheet
+Guarantee Above sheet = NoRivalAbove sheet
 
--- ---- free, by each way
+-- ---- free, by either way
 
 -- "If a good choice exists at 20,001, it is good at every side": where a sheet prints free, labels at its corners meet at no side, whole or
 -- fraction. Side and spots are read off the bytes.
@@ -184,14 +175,14 @@ pub record RightSheet (way : Way) (sites : List Site) (sheet : List ℕ) : Type 
   -- which, read again, gives the same sheet when placed the same way.
   pub again : output_of way (carried sheet) ≡ sheet
   pub free_apart : FreeApart sheet answer.corners
-  -- Demand 3, or what stands for it by another way.
+  -- Demand 3, or what stands for it above the spot.
   pub guarantee : Guarantee way sheet
 
--- ---- the same of a sheet at whatever side its plan was placed (document 02, L1, L2 and L5)
+-- ---- the same of a sheet at whatever side its plan was placed (document 02, L1 and L2)
 
 -- "At the side found for that very plan": the printed side is that of the answer for the spots, by the plan's way; side and spots are read
 -- off the bytes. L2, of "a side found this way": it "counts as a given one where four corners are chosen at it", since there the side found
--- by that other way is asked for. L5: "A side found another way counts as a given one here."
+-- the usual way is asked for.
 pub record PrintsFound (way : Way) (sheet : List ℕ) : Type 0 where
   pub found : Answer
   pub is_answer : IsAnswer way (spots_on sheet) found
@@ -206,7 +197,7 @@ pub record PlacedSheet (way : Way) (sites : List Site) (side : Side) (sheet : Li
   pub spots : spots_on sheet ≡ places_of sites
   pub list : carried sheet ≡ list_text sites
   -- L2: "The sheet keeps its form; its list gives the same sheet again when placed the same way at the same side", which is read off its
-  -- bytes. L5 says the same.
+  -- bytes.
   pub again : (printed : Side) → side_on sheet ≡ some printed → output_at way printed (carried sheet) ≡ sheet
   pub free_apart : FreeApart sheet corners
   -- "That the side is the greatest, and the twice-the-side guarantee, then hold only at the side found": there it is right as said before.
@@ -217,24 +208,24 @@ abbrev pub SheetWritten : Way → List Site → Side → Written → List ℕ �
 SheetWritten way sites side (Bytes n) buffer = PlacedSheet way sites side (take n buffer)
 SheetWritten way sites side (NotWritten why) buffer = Unit {0}
 
--- ---- from a list to its output, by a way of placing: all three, with what stands for the third by another way
+-- ---- from a list to its output, by a way of placing: all three, with what stands for the third above the spot
 
 -- A sheet for a list that is accepted, which it carries byte for byte.
 pub record SheetFor (way : Way) (text sheet : List ℕ) : Type 0 where
   pub sites : List Site
-  pub accepts : Accepts way text sites
+  pub accepts : Accepts text sites
   pub right : RightSheet way sites sheet
   pub gives_back : carried sheet ≡ text
 
 -- Every text has its answer: the line with the number, where it is refused, else its sheet.
 pub data Answered (way : Way) (text output : List ℕ) : Type 0 where
-  is_refusal_line : {number : ℕ} → ListRefused way text number → output ≡ refusal_line number → Answered way text output
+  is_refusal_line : {number : ℕ} → ListRefused text number → output ≡ refusal_line number → Answered way text output
   list_sheet : SheetFor way text output → Answered way text output
 
 -- L1: at a given side likewise.
 pub record SheetForAt (way : Way) (side : Side) (text sheet : List ℕ) : Type 0 where
   pub sites : List Site
-  pub accepts : Accepts way text sites
+  pub accepts : Accepts text sites
   pub placed : PlacedSheet way sites side sheet
   pub gives_back : carried sheet ≡ text
 

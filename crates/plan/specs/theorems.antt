@@ -16,6 +16,5 @@ pub mod HandedBack
 pub mod Output
 pub mod OneOutput
 pub mod Rivals
-pub mod Best
 pub mod Limits
 pub mod Known

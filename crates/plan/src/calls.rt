@@ -1,4 +1,4 @@
-// The calls of document 01 on a plan, with placing split in two and in three ways as document 02 asks. A call takes the plan and hands
+// The calls of document 01 on a plan, with placing split in two and in two ways as document 02 asks. A call takes the plan and hands
 // back the one after it, where that can be another.
 ghost use Rattle.std.specs.Prelude.{◌≡◌, ◌≤◌, length};
 ghost use Rattle.placing.specs.rules.Units.{most_sites};
@@ -7,7 +7,7 @@ ghost use Rattle.placing.specs.rules.Answer.{is_side, side_number};
 ghost use Rattle.placing.specs.deciding.Answer.{answer_of};
 ghost use Rattle.plan.specs.rules.Refusal.{first_refusal, number_by};
 ghost use Rattle.plan.specs.rules.List.{places_of};
-ghost use Rattle.plan.specs.rules.Calls.{too_many_test, finding_tests, side_tests, corner_tests};
+ghost use Rattle.plan.specs.rules.Calls.{finding_tests, side_tests, corner_tests};
 ghost use Rattle.plan.specs.calls.Plan.{sites_in, Valid};
 ghost use Rattle.plan.specs.calls.Answers.{entered_in, found_in, table_found, chosen_in, table_chosen, answer_for, side_asked, corner_asked, counted};
 ghost use Rattle.plan.specs.calls.Answers.{carried_at, side_carried, corner_carried};
@@ -34,27 +34,13 @@ pub fn enter(plan: Plan, name: &[u8], x: u64, y: u64) -> Planned
     enter_read(plan, site_name, site_place)
 }
 
-// Whether a way does not take so many sites: the small one takes ten.
-pub fn too_many(way: Way, n: usize) -> bool
-    ensures { result ≡ too_many_test way n }
-{
-    match way {
-        Way::Usual => false,
-        Way::Above => false,
-        Way::Small => Limits::SMALL_SITES < n,
-    }
-}
-
-// What keeps `n` sites from being placed by a way with a work table of so many bytes: tests 8, 13, 11.
-fn unready(way: Way, n: usize, bytes: usize) -> Outcome
+// What keeps `n` sites from being placed with a work table of so many bytes: tests 8, 11.
+fn unready(n: usize, bytes: usize) -> Outcome
     requires { n ≤ most_sites }
-    ensures { result ≡ outcome_of (first_refusal (finding_tests way n bytes)) }
+    ensures { result ≡ outcome_of (first_refusal (finding_tests n bytes)) }
 {
     if n == 0 {
         return Outcome::Refused(Refusal::NoSites);
-    }
-    if too_many(way, n) {
-        return Outcome::Refused(Refusal::TooManySites);
     }
     if bytes < n * n {
         return Outcome::Refused(Refusal::ShortTable);
@@ -62,17 +48,17 @@ fn unready(way: Way, n: usize, bytes: usize) -> Outcome
     Outcome::Done
 }
 
-// Finds the greatest side of the plan's sites by a way: tests 8, 13, 11. The plan stays with the caller, as it was.
+// Finds the greatest side of the plan's sites by a way: tests 8, 11. The plan stays with the caller, as it was.
 pub fn find(plan: Plan, way: Way, table: &mut [u8]) -> AskedSide
     requires { Valid plan }
     ensures answer { result ≡ found_in plan way table.old }
-    ensures table { table.new ≡ table_found plan way table.old }
-    ensures told { FindTold plan way table.old result table.new }
+    ensures table { table.new ≡ table_found plan table.old }
+    ensures told { FindTold plan table.old result table.new }
     ensures value { side_carried result
-        ≡ carried_at (number_by (finding_tests way plan.count (length table.old))) (side_number (answer_of way (places_of (sites_in plan))).side) }
+        ≡ carried_at (number_by (finding_tests plan.count (length table.old))) (side_number (answer_of way (places_of (sites_in plan))).side) }
 {
     let n = plan.count;
-    let failed = unready(way, n, table.len());
+    let failed = unready(n, table.len());
     if let Outcome::Refused(why) = failed {
         return AskedSide::NoSide(why);
     }
@@ -95,11 +81,11 @@ pub fn is_side(side: Side) -> bool
     }
 }
 
-// Chooses the first good choice by a way at a given side: tests 3, 8, 13, 11, 12. The plan is then placed that way at that side.
+// Chooses the first good choice by a way at a given side: tests 3, 8, 11, 12. The plan is then placed that way at that side.
 pub fn choose_at(plan: Plan, way: Way, side: Side, table: &mut [u8]) -> Planned
     requires { Valid plan }
     ensures answer { result ≡ chosen_in plan way side table.old }
-    ensures table { table.new ≡ table_chosen plan way side table.old }
+    ensures table { table.new ≡ table_chosen plan side table.old }
     ensures valid { Valid result.plan }
     ensures told { ChooseTold plan way side table.old result table.new }
 {
@@ -107,7 +93,7 @@ pub fn choose_at(plan: Plan, way: Way, side: Side, table: &mut [u8]) -> Planned
         return refuse(plan, Refusal::BadNumber);
     }
     let n = plan.count;
-    let failed = unready(way, n, table.len());
+    let failed = unready(n, table.len());
     if let Outcome::Refused(why) = failed {
         return refuse(plan, why);
     }

@@ -45,8 +45,8 @@ fn put_planned(planned: Planned, out: &mut [u8]) -> usize
     compose(plan, out)
 }
 
-// The plan of a list, placed by a way at the side found; where the list is refused, has no sites or too many, an empty plan. It lends both
-// calls a work table of its own.
+// The plan of a list, placed by a way at the side found; where the list is refused or has no sites, an empty plan. It lends both calls a
+// work table of its own.
 pub fn place_list(text: &[u8], way: Way) -> Planned
     ensures answer { result ≡ list_placed way text.now }
     ensures valid { Valid result.plan }
@@ -62,7 +62,7 @@ pub fn place_list(text: &[u8], way: Way) -> Planned
     let found = find(level, way, &mut table);
     match found {
         AskedSide::SideIs(side) => choose_at(level, way, side, &mut table),
-        AskedSide::NoSide(why) => refuse(Plan::start(), why),
+        AskedSide::NoSide(why) => refuse(level, why),
     }
 }
 

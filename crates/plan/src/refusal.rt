@@ -16,7 +16,6 @@ pub enum Refusal {
     ShortBuffer,
     ShortTable,
     NoGoodChoice,
-    TooManySites,
 }
 
 // The answer of a call that hands back nothing but a plan.
@@ -43,6 +42,5 @@ pub fn number_of(refusal: Refusal) -> u8
         Refusal::ShortBuffer => 10,
         Refusal::ShortTable => 11,
         Refusal::NoGoodChoice => 12,
-        Refusal::TooManySites => 13,
     }
 }

@@ -4,7 +4,7 @@
 use Rattle.std.specs.Prelude.{◌≡◌, true, false, List, ℕ, ◌≤◌, ◌<◌, eqb, length, take}
 use Rattle.placing.specs.declared.units.Side.{Side}
 use Rattle.placing.specs.declared.units.Side.TheVariants.{Number, Free}
-use Rattle.placing.specs.declared.way.Way.TheVariants.{Usual, Above, Small}
+use Rattle.placing.specs.declared.way.Way.TheVariants.{Usual, Above}
 use Rattle.plan.specs.declared.refusal.Refusal.{Refusal}
 use Rattle.plan.specs.declared.refusal.Refusal.TheVariants.{BadNumber}
 use Rattle.plan.specs.rules.Refusal.{number_of, Result, accepted, refused}
@@ -15,8 +15,8 @@ use Rattle.plan.specs.deciding.Output.{sheet_of, sheet_at, output_of, output_at,
 use Rattle.plan.specs.deciding.Reading.{read_list}
 use Rattle.plan.specs.calls.Lengths.{shortest_sheet, shortest_sheet_at}
 use Rattle.plan.specs.Demands.{ListRefused, RefusedAt, SheetFor, SheetForAt}
-use Rattle.placing.specs.declared.way.GivenWay.{GivenWay}
-use Rattle.placing.specs.declared.way.GivenWay.TheVariants.{By, NoWay}
+use Rattle.sheet_call.specs.declared.GivenWay.{GivenWay}
+use Rattle.sheet_call.specs.declared.GivenWay.TheVariants.{By, NoWay}
 
 -- ---- the number and the buffer
 
@@ -41,20 +41,18 @@ called_for sheet-of (accepted sites) buffer = sheet_in (length_given true (sheet
 
 -- For the bytes of a list, by a way, at the side found,
 abbrev pub called : GivenWay → List ℕ → List ℕ → Called
-called (By way) list buffer = called_for (sheet_of way) (to_place way (read_list list)) buffer
+called (By way) list buffer = called_for (sheet_of way) (to_place (read_list list)) buffer
 called NoWay list buffer = refusal BadNumber buffer
 
 -- and at a given side.
 abbrev pub called_at : GivenWay → Side → List ℕ → List ℕ → Called
-called_at (By way) side list buffer = called_for (sheet_at way side) (to_place_at way side (exists_at way side) (read_list list)) buffer
+called_at (By way) side list buffer = called_for (sheet_at way side) (to_place_at side (exists_at way side) (read_list list)) buffer
 called_at NoWay side list buffer = refusal BadNumber buffer
 
--- The numbers that stand for the ways: 1 for the usual one, 2 for above the spot only, 3 for a small level. No document has them; a number
--- that is none is refused as a side outside the range is.
+-- The numbers that stand for the ways: 1 for the usual one, 2 for above the spot only. No document has them; a number that is none is
+-- refused as a side outside the range is.
 abbrev pub way_of : ℕ → GivenWay
-way_of number =
-    elim (eqb number 1)
-    [ true ↦ By Usual | false ↦ elim (eqb number 2) [ true ↦ By Above | false ↦ elim (eqb number 3) [ true ↦ By Small | false ↦ NoWay ] ] ]
+way_of number = elim (eqb number 1) [ true ↦ By Usual | false ↦ elim (eqb number 2) [ true ↦ By Above | false ↦ NoWay ] ]
 
 -- The number that stands for free, the greatest of 32 bits; every other stands for itself.
 abbrev pub free_number : ℕ
@@ -80,7 +78,7 @@ by_no_way shortest =
 -- At the side found: sheets have 18 bytes and more.
 abbrev pub at_found : GivenWay → List ℕ → Asked
 at_found (By way) list =
-    record { Refused = ListRefused way list; IsSheet = SheetFor way list; output = output_of way list; shortest = shortest_sheet }
+    record { Refused = ListRefused list; IsSheet = SheetFor way list; output = output_of way list; shortest = shortest_sheet }
 at_found NoWay list = by_no_way shortest_sheet
 
 -- At a given side: they have 15 and more.

@@ -13,7 +13,7 @@ use Rattle.std.proofs.Math.Seq.{take-append_seam}
 use Rattle.placing.specs.declared.units.Side.{Side}
 use Rattle.placing.specs.declared.units.Side.TheVariants.{Number, Free}
 use Rattle.placing.specs.declared.way.Way.{Way}
-use Rattle.placing.specs.declared.way.Way.TheVariants.{Usual, Above, Small}
+use Rattle.placing.specs.declared.way.Way.TheVariants.{Usual, Above}
 use Rattle.placing.specs.rules.Units.{greatest_side}
 use Rattle.placing.specs.rules.Answer.{Answer, is_side, IsChosen}
 use Rattle.placing.specs.deciding.Answer.{answer_of, chosen_at}
@@ -51,8 +51,8 @@ use Rattle.plan.specs.theorems.Output.{
   is_placed_at,
   text-to-place-at,
 }
-use Rattle.placing.specs.declared.way.GivenWay.{GivenWay}
-use Rattle.placing.specs.declared.way.GivenWay.TheVariants.{By, NoWay}
+use Rattle.sheet_call.specs.declared.GivenWay.{GivenWay}
+use Rattle.sheet_call.specs.declared.GivenWay.TheVariants.{By, NoWay}
 use Rattle.sheet_call.specs.Call.{
   Called,
   refusal,
@@ -119,8 +119,8 @@ MeetsFound list buffer number after way = Meets (at_found way list) (called way 
 abbrev pub MeetsGiven : Side → (list buffer : List ℕ) (number : ℕ) (after : List ℕ) → GivenWay → Type 0
 MeetsGiven side list buffer number after way = Meets (at_given way side list) (called_at way side list buffer) buffer number after
 
--- Refusals have numbers up to 13.
-module _ (asked : Asked) (small : 13 < asked.shortest) (buffer : List ℕ) where
+-- Refusals have numbers up to 12.
+module _ (asked : Asked) (small : 12 < asked.shortest) (buffer : List ℕ) where
   abbrev TellsOf : Called → Type 0
   TellsOf c = Told asked buffer c.number c.buffer
 
@@ -194,14 +194,14 @@ pub call-meets : (way : Way) (list buffer : List ℕ) {done : Planned} {number :
     → MeetsFound list buffer number after (By way)
 unfolding sheet_of output_of
 call-meets way list buffer =
-    planned-meets (at_found (By way) list) (omega arith) buffer way (λ sites. answer_of way (places_of sites)) refl (by-sites (text-to-place way list))
+    planned-meets (at_found (By way) list) (omega arith) buffer way (λ sites. answer_of way (places_of sites)) refl (by-sites (text-to-place list))
   where
-    by-sites : {placing : Result (List Site)} → ToPlace way list placing
+    by-sites : {placing : Result (List Site)} → ToPlace list placing
         → Ready (at_found (By way) list) way (λ sites. answer_of way (places_of sites)) placing
     by-sites (not_placed reason) = not_ready reason
     by-sites (to_be_placed {sites} accepts) =
         let listed = read-listed list sites (reads-are accepts.read) in
-        ready (answer-listed way sites listed) (sheet-for way list sites accepts) (sheet-shortest way sites listed accepts.takes.some_sites)
+        ready (answer-listed way sites listed) (sheet-for way list sites accepts) (sheet-shortest way sites listed accepts.some_sites)
 
 -- at a given side,
 pub call-meets-at : (way : Way) (side : Side) (list buffer : List ℕ) {done : Planned} {number : ℕ} {after : List ℕ}
@@ -217,10 +217,10 @@ call-meets-at way side list buffer =
     by-sites (not_placed_at reason) = not_ready reason
     by-sites (is_placed_at {sites} accepts chosen) =
         let listed = read-listed list sites (reads-are accepts.read) in
-        ready chosen (sheet-for-at list sites accepts chosen) (sheet-shortest-at sites listed accepts.takes.some_sites chosen)
+        ready chosen (sheet-for-at list sites accepts chosen) (sheet-shortest-at sites listed accepts.some_sites chosen)
 
 -- and without a way.
-no-way-meets : {number : ℕ} (shortest : ℕ) → 13 < shortest → (buffer : List ℕ) → number ≡ 3
+no-way-meets : {number : ℕ} (shortest : ℕ) → 12 < shortest → (buffer : List ℕ) → number ≡ 3
     → Meets (by_no_way shortest) (refusal BadNumber buffer) buffer number buffer
 no-way-meets shortest small buffer is =
     (is, (refl, rw is (refusal-told (by_no_way shortest) small buffer BadNumber (is_refused refl))))
@@ -256,7 +256,7 @@ refused-told {asked} {buffer} told short = (by-reason (told.refused short).0, (t
 
 pub told-refused : {way : Way} {list buffer after : List ℕ} {number : ℕ} → Told (at_found (By way) list) buffer number after
     → number < shortest_sheet
-    → (ListRefused way list number ⊎ ((number ≡ 10) × (SheetFor way list (output_of way list) × (length buffer < length (output_of way list)))))
+    → (ListRefused list number ⊎ ((number ≡ 10) × (SheetFor way list (output_of way list) × (length buffer < length (output_of way list)))))
     × (after ≡ buffer)
 told-refused = refused-told
 
@@ -282,9 +282,9 @@ told-no-way shortest {buffer} {after} {number} told = by (dec_lt number shortest
 
 -- ---- the numbers that stand for no way or no side
 
--- 1 is the usual way, 2 is above the spot only, 3 is a small level.
-pub ways-given : (way_of 1 ≡ By Usual) × (way_of 2 ≡ By Above) × (way_of 3 ≡ By Small)
-ways-given = (refl, refl, refl)
+-- 1 is the usual way, 2 is above the spot only.
+pub ways-given : (way_of 1 ≡ By Usual) × (way_of 2 ≡ By Above)
+ways-given = (refl, refl)
 
 -- The greatest number of 32 bits is free, and every other is so many half units.
 pub sides-given : (side_of 4294967295 ≡ Free)
@@ -292,11 +292,11 @@ pub sides-given : (side_of 4294967295 ≡ Free)
 sides-given = (refl, λ number not-Free. rw (ne_eqb number free_number not-Free, side_of))
 
 -- Other numbers are no way and are refused with 3, whatever the list,
-pub no_way : (number : ℕ) (list buffer : List ℕ) → (number ≡ 1 → ⊥) → (number ≡ 2 → ⊥) → (number ≡ 3 → ⊥)
+pub no_way : (number : ℕ) (list buffer : List ℕ) → (number ≡ 1 → ⊥) → (number ≡ 2 → ⊥)
     → (called (way_of number) list buffer ≡ refusal BadNumber buffer)
     × ((side : Side) → called_at (way_of number) side list buffer ≡ refusal BadNumber buffer)
-no_way number list buffer not-usual not-above not-small =
-    rw (ne_eqb number 1 not-usual, ne_eqb number 2 not-above, ne_eqb number 3 not-small, way_of) (refl, λ side. refl)
+no_way number list buffer not-usual not-above =
+    rw (ne_eqb number 1 not-usual, ne_eqb number 2 not-above, way_of) (refl, λ side. refl)
 
 -- and so is a side outside the range, whatever the way.
 side-refused : (way : GivenWay) (side : Side) (list buffer : List ℕ) → is_side side ≡ false

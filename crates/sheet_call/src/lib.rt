@@ -9,7 +9,7 @@ ghost use Rattle.sheet_call.specs.Call.{called, called_at, side_of, way_of, at_f
 ghost use Rattle.sheet_call.specs.CallLaws.{planned_in};
 
 use placing::units::{HalfUnits, Side};
-use placing::way::{GivenWay, Way};
+use placing::way::Way;
 use plan::output::{place_list, place_list_at};
 use plan::plan::{Planned, Written};
 use plan::refusal::{Outcome, Refusal, number_of};
@@ -33,7 +33,12 @@ const USUAL: u32 = 1;
 
 const ABOVE: u32 = 2;
 
-const SMALL: u32 = 3;
+// What a number given as a way stands for.
+#[derive(Drop)]
+enum GivenWay {
+    By(Way),
+    NoWay,
+}
 
 // The way that a number stands for.
 fn way_of(number: u32) -> GivenWay
@@ -44,9 +49,6 @@ fn way_of(number: u32) -> GivenWay
     }
     if number == ABOVE {
         return GivenWay::By(Way::Above);
-    }
-    if number == SMALL {
-        return GivenWay::By(Way::Small);
     }
     GivenWay::NoWay
 }

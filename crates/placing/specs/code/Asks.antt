@@ -6,7 +6,6 @@ use Rattle.placing.specs.declared.geometry.Label.{Label}
 use Rattle.placing.specs.declared.units.HalfUnits.{HalfUnits}
 use Rattle.placing.specs.declared.crowding.Crowding.{Crowding}
 use Rattle.placing.specs.declared.way.Way.{Way}
-use Rattle.placing.specs.declared.way.TwoWay.{TwoWay}
 use Rattle.placing.specs.rules.Units.{most_sites, Distinct}
 use Rattle.placing.specs.rules.Corner.{Corner, directions_of}
 use Rattle.placing.specs.rules.Choice.{corner_at}
@@ -18,7 +17,7 @@ use Rattle.placing.specs.code.Labels.{MeetAt, LookedAt, labels}
 use Rattle.placing.specs.code.Steps.{Done, Sizes, label_at, Settled, AllSettled, Waits}
 
 -- The open corners of site j whose labels meet the one at corner c of site k are looked at.
-pub record MetLooked (xs ys : List ℕ) (way : TwoWay) (side : HalfUnits) (opens : List ℕ) (k c j : ℕ) : Type 0 where
+pub record MetLooked (xs ys : List ℕ) (way : Way) (side : HalfUnits) (opens : List ℕ) (k c j : ℕ) : Type 0 where
   pub looked : (e : ℕ) → row_of opens j e ≡ 1 → MeetAt side.0 xs ys k c j e → LookedAt way c e
 
 -- Of the open corners of site j none has a label that meets the one at corner c of site k.
@@ -52,7 +51,7 @@ pub record MayCarryCorner (n : ℕ) (xs ys : List ℕ) (side : HalfUnits) (opens
   pub corner : Corner e
 
 -- Carrying it out, by a way.
-pub record MayCarryOut (n : ℕ) (xs ys : List ℕ) (way : TwoWay) (side : HalfUnits) (opens decided : List ℕ) (k from : ℕ) : Type 0 where
+pub record MayCarryOut (n : ℕ) (xs ys : List ℕ) (way : Way) (side : HalfUnits) (opens decided : List ℕ) (k from : ℕ) : Type 0 where
   pub carrying : MayCarry n xs ys side opens decided k from
   pub met_looked : (j : ℕ) → j < n → j ≢ k → MetLooked xs ys way side opens k (corner_at decided k) j
 
@@ -65,7 +64,7 @@ pub record MayLook (decided marks : List ℕ) (from n : ℕ) : Type 0 where
   pub none_below : (j : ℕ) → j < from → Waits decided marks j → ⊥
 
 -- Carrying out all decisions that are not marked. Those of the sites below `from` are.
-pub record MayCarryOn (n : ℕ) (xs ys : List ℕ) (way : TwoWay) (side : HalfUnits) (opens decided marks : List ℕ) (from : ℕ) : Type 0 where
+pub record MayCarryOn (n : ℕ) (xs ys : List ℕ) (way : Way) (side : HalfUnits) (opens decided marks : List ℕ) (from : ℕ) : Type 0 where
   pub held : Held n xs ys side
   pub sizes : Sizes opens decided
   pub room : n ≤ length marks
@@ -74,7 +73,7 @@ pub record MayCarryOn (n : ℕ) (xs ys : List ℕ) (way : TwoWay) (side : HalfUn
   pub marked_below : (j : ℕ) → j < from → Done marks j
 
 -- Trying corner c of site i, with all sites below it decided.
-pub record MayTry (n : ℕ) (xs ys : List ℕ) (way : TwoWay) (side : HalfUnits) (opens decided marks : List ℕ) (i c : ℕ) : Type 0 where
+pub record MayTry (n : ℕ) (xs ys : List ℕ) (way : Way) (side : HalfUnits) (opens decided marks : List ℕ) (i c : ℕ) : Type 0 where
   pub held : Held n xs ys side
   pub sizes : Sizes opens decided
   pub room : n ≤ length marks
@@ -86,14 +85,14 @@ pub record MayTry (n : ℕ) (xs ys : List ℕ) (way : TwoWay) (side : HalfUnits)
   pub is_open : row_of opens i c ≡ 1
 
 -- Walking on from site i.
-pub record MayWalk (n : ℕ) (xs ys : List ℕ) (way : TwoWay) (side : HalfUnits) (opens decided marks : List ℕ) (i : ℕ) : Type 0 where
+pub record MayWalk (n : ℕ) (xs ys : List ℕ) (way : Way) (side : HalfUnits) (opens decided marks : List ℕ) (i : ℕ) : Type 0 where
   pub held : Held n xs ys side
   pub sizes : Sizes opens decided
   pub room : n ≤ length marks
   pub walked : Walked (labels way side.0 n xs ys) i opens decided
 
 -- Deciding site i, to which the walk has come.
-pub record MayDecide (n : ℕ) (xs ys : List ℕ) (way : TwoWay) (side : HalfUnits) (opens decided marks : List ℕ) (i : ℕ) : Type 0 where
+pub record MayDecide (n : ℕ) (xs ys : List ℕ) (way : Way) (side : HalfUnits) (opens decided marks : List ℕ) (i : ℕ) : Type 0 where
   pub walking : MayWalk n xs ys way side opens decided marks i
   pub listed : i < n
   pub undecided : corner_at decided i ≡ 0

@@ -8,7 +8,7 @@ use Rattle.std.proofs.Math.Decide.{ℕ_discrete}
 use Rattle.placing.specs.declared.corner.Directions.{Directions}
 use Rattle.placing.specs.declared.geometry.Label.{Label}
 use Rattle.placing.specs.declared.units.HalfUnits.{HalfUnits}
-use Rattle.placing.specs.declared.way.TwoWay.{TwoWay}
+use Rattle.placing.specs.declared.way.Way.{Way}
 use Rattle.placing.specs.rules.Corner.{Corner, directions_of}
 use Rattle.placing.specs.rules.Units.{most_sites}
 use Rattle.placing.specs.rules.Choice.{corner_at}
@@ -187,14 +187,14 @@ module _ {xs ys : List ℕ} {side : HalfUnits} {opens decided : List ℕ} {k : �
   -- Carrying the decision of site k to corner e of site j: it is open, meets the label of site k, and was closed.
   pub carried-meeting : (ok : Bool) (opens' decided' : List ℕ) → get_or opens (index_of j e) 0 ≡ 1
       → Clash side.0 xs ys k (corner_at decided k) j e → ClosedCorner opens decided j e ok opens' decided'
-      → (way : TwoWay) (n : ℕ) → CarriedThere (labels way side.0 n xs ys) (Only e) opens decided k j ok opens' decided'
+      → (way : Way) (n : ℕ) → CarriedThere (labels way side.0 n xs ys) (Only e) opens decided k j ok opens' decided'
   carried-meeting ok opens' decided' is_open clash closed way n =
       carried-closed (labels way side.0 n xs ys) opens decided k j may.settled e ok opens' decided' clash.different
       (row_at opens j e may.corner ∙ is_open) clash.meets closed
 
   -- It is not open, or does not meet the label of site k.
   pub carried-apart : (get_or opens (index_of j e) 0 ≡ 1 → Clash side.0 xs ys k (corner_at decided k) j e → ⊥)
-      → (way : TwoWay) (n : ℕ) → CarriedThere (labels way side.0 n xs ys) (Only e) opens decided k j true opens decided
+      → (way : Way) (n : ℕ) → CarriedThere (labels way side.0 n xs ys) (Only e) opens decided k j true opens decided
   carried-apart apart way n =
       carried_same (labels way side.0 n xs ys) opens decided k j may.settled may.sizes
       (λ different f same is_open meets.
@@ -230,7 +230,7 @@ pub record CarriedBelow (P : Problem) (Looked : ℕ → Type 0) (opens₀ decide
   pub own : SameSite opens₀ decided₀ opens decided k
 
 -- It starts at site `from`: below it nothing is to be done.
-pub carried-start : {n : ℕ} {xs ys : List ℕ} {side : HalfUnits} {opens decided : List ℕ} {k from : ℕ} {Looked : ℕ → Type 0} (way : TwoWay)
+pub carried-start : {n : ℕ} {xs ys : List ℕ} {side : HalfUnits} {opens decided : List ℕ} {k from : ℕ} {Looked : ℕ → Type 0} (way : Way)
     → MayCarry n xs ys side opens decided k from → CarriedBelow (labels way side.0 n xs ys) Looked opens decided k from opens decided
 carried-start {n} {xs} {ys} {side} {opens} {decided} {k} way may =
     record {

@@ -4,7 +4,7 @@
 use Rattle.std.specs.Prelude.{◌≡◌, refl, Bool, true, false, List, ◌≢◌, ℕ, ◌≤◌, ◌<◌, length, set}
 use Rattle.std.proofs.Common.{sym, ap, ◌∙◌, true≢false, lt_of_lt_of_le, arith, length-set, get_or-set_other}
 use Rattle.placing.specs.declared.units.HalfUnits.{HalfUnits}
-use Rattle.placing.specs.declared.way.TwoWay.{TwoWay}
+use Rattle.placing.specs.declared.way.Way.{Way}
 use Rattle.placing.specs.rules.Choice.{corner_at}
 use Rattle.placing.specs.search.Problem.{Problem}
 use Rattle.placing.specs.search.Rows.{row_of}
@@ -27,7 +27,7 @@ pub record CarryingOn (P : Problem) (from : ℕ) (opens₀ decided₀ marks₀ o
   pub marked_below : (j : ℕ) → j < from → Done marks j
 
 -- Carrying on starts with the state as it is.
-pub carrying-starts : {n : ℕ} {xs ys : List ℕ} {way : TwoWay} {side : HalfUnits} {opens decided marks : List ℕ} {from : ℕ}
+pub carrying-starts : {n : ℕ} {xs ys : List ℕ} {way : Way} {side : HalfUnits} {opens decided marks : List ℕ} {from : ℕ}
     → MayCarryOn n xs ys way side opens decided marks from
     → CarryingOn (labels way side.0 n xs ys) from opens decided marks opens decided marks
 carrying-starts may =
@@ -113,7 +113,7 @@ module _ {P : Problem} {from : ℕ} {opens₀ decided₀ marks₀ opens decided 
           }
 
 -- A decision may be carried out: open corners are allowed, so that those whose labels meet it are looked at.
-pub may-carry-out : {n : ℕ} {xs ys : List ℕ} {way : TwoWay} {side : HalfUnits} {opens₀ decided₀ marks₀ opens decided marks : List ℕ} {k from : ℕ}
+pub may-carry-out : {n : ℕ} {xs ys : List ℕ} {way : Way} {side : HalfUnits} {opens₀ decided₀ marks₀ opens decided marks : List ℕ} {k from : ℕ}
     → Held n xs ys side → from ≤ n → CarryingOn (labels way side.0 n xs ys) from opens₀ decided₀ marks₀ opens decided marks → k < n
     → corner_at decided k ≢ 0 → MayCarryOut n xs ys way side opens decided k from
 may-carry-out {n} {xs} {ys} {way} {side} held inside so_far listed is_decided =

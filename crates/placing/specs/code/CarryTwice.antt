@@ -4,8 +4,8 @@ use Rattle.std.specs.Prelude.{◌≡◌, Bool, true, false, List, ◌≢◌, ◌
 use Rattle.std.proofs.Common.{sym, subst, ◌∙◌, true≢false, inl, inr, ⊎_elim, lt_of_lt_of_le, arith}
 use Rattle.std.proofs.Math.Decide.{ℕ_discrete}
 use Rattle.placing.specs.declared.units.HalfUnits.{HalfUnits}
-use Rattle.placing.specs.declared.way.TwoWay.{TwoWay}
-use Rattle.placing.specs.declared.way.TwoWay.TheVariants.{Equal, Both}
+use Rattle.placing.specs.declared.way.Way.{Way}
+use Rattle.placing.specs.declared.way.Way.TheVariants.{Usual, Above}
 use Rattle.placing.specs.rules.Corner.{Corner}
 use Rattle.placing.specs.rules.Choice.{corner_at}
 use Rattle.placing.specs.search.Problem.{Problem}
@@ -167,7 +167,7 @@ settled-after {P} {Looked} {opens} {decided} {opens₁} {decided₁} {k} k-liste
     settled j listed d (no different) = other j listed different d (ℕ_discrete (corner_at decided j) 0)
 
 -- So after a round the decision may be carried to other corners.
-pub may-carry-again : {n : ℕ} {xs ys : List ℕ} {way : TwoWay} {side : HalfUnits} {Looked : ℕ → Type 0} {opens decided opens₁ decided₁ : List ℕ}
+pub may-carry-again : {n : ℕ} {xs ys : List ℕ} {way : Way} {side : HalfUnits} {Looked : ℕ → Type 0} {opens decided opens₁ decided₁ : List ℕ}
     {k from : ℕ} {ok : Bool} → MayCarry n xs ys side opens decided k from
     → CarriedOut (labels way side.0 n xs ys) Looked opens decided k ok opens₁ decided₁ → ok ≡ true
     → MayCarry n xs ys side opens₁ decided₁ k from
@@ -187,20 +187,20 @@ may-carry-again may out went =
       };
     }
 
-module _ {n : ℕ} {xs ys : List ℕ} {way : TwoWay} {side : HalfUnits} {opens decided : List ℕ} {k from : ℕ}
+module _ {n : ℕ} {xs ys : List ℕ} {way : Way} {side : HalfUnits} {opens decided : List ℕ} {k from : ℕ}
     (may : MayCarryOut n xs ys way side opens decided k from) where
   -- By the usual way one round over the decided corner carries the decision out,
-  pub carried-usual : {ok : Bool} {opens' decided' : List ℕ} → way ≡ Equal
+  pub carried-usual : {ok : Bool} {opens' decided' : List ℕ} → way ≡ Usual
       → CarriedOut (labels way side.0 n xs ys) (Only (corner_at decided k)) opens decided k ok opens' decided'
       → CarriedOut (labels way side.0 n xs ys) Every opens decided k ok opens' decided'
   carried-usual is = carried-every (λ j e listed different is_open meets.
       same (subst (λ w. LookedAt w (corner_at decided k) e) is ((may.met_looked j listed different).looked e is_open meets)))
     where
-      same : {e : ℕ} → LookedAt Equal (corner_at decided k) e → Only (corner_at decided k) e
+      same : {e : ℕ} → LookedAt Usual (corner_at decided k) e → Only (corner_at decided k) e
       same (equal at) = at
 
   -- and above the spot two rounds do, over corner 1 and over corner 2.
-  pub carried-above : {went ok : Bool} {opens₁ decided₁ opens' decided' : List ℕ} → way ≡ Both
+  pub carried-above : {went ok : Bool} {opens₁ decided₁ opens' decided' : List ℕ} → way ≡ Above
       → CarriedOut (labels way side.0 n xs ys) (Only 1) opens decided k went opens₁ decided₁ → went ≡ true
       → CarriedOut (labels way side.0 n xs ys) (Only 2) opens₁ decided₁ k ok opens' decided'
       → CarriedOut (labels way side.0 n xs ys) Every opens decided k ok opens' decided'
@@ -210,7 +210,7 @@ module _ {n : ℕ} {xs ys : List ℕ} {way : TwoWay} {side : HalfUnits} {opens d
       (subst (λ w. LookedAt w (corner_at decided k) e) is ((may.met_looked j listed different).looked e is_open meets)))
       (carried-twice (first.carried went) second)
     where
-      among : {e : ℕ} → Corner e → LookedAt Both (corner_at decided k) e → Either (Only 1) (Only 2) e
+      among : {e : ℕ} → Corner e → LookedAt Above (corner_at decided k) e → Either (Only 1) (Only 2) e
       among {e} corner (low small) = by_one (ℕ_discrete e 1)
         where
           by_one : Dec (e ≡ 1) → Either (Only 1) (Only 2) e

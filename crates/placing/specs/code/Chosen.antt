@@ -1,23 +1,22 @@
 -- What choosing hands back, as document 01 has it: the first good choice, or none.
 -- Assumes nothing.
 use Rattle.std.specs.Prelude.{◌≡◌, refl, Bool, true, false, List, ◌∷◌, ◌++◌, ℕ, zero, suc, ◌-◌, ◌≤◌, length, take, replicate}
-use Rattle.std.proofs.Common.{sym, ap, ◌∙◌, le_of_suc-le-suc, arith, take_at}
+use Rattle.std.proofs.Common.{sym, ap, ◌∙◌, le_of_suc-le-suc, arith}
 use Rattle.std.proofs.Math.Option.{Option, some, none}
 use Rattle.placing.specs.declared.choice.Choice.{Choice}
 use Rattle.placing.specs.declared.choice.Chosen.{Chosen}
 use Rattle.placing.specs.declared.units.Place.{Place}
 use Rattle.placing.specs.declared.way.Way.{Way}
-use Rattle.placing.specs.declared.way.TwoWay.{TwoWay}
 use Rattle.placing.specs.rules.Units.{most_sites, Distinct}
 use Rattle.placing.specs.rules.Choice.{First}
-use Rattle.placing.specs.deciding.Answer.{first_good, is_some, corners_of}
-use Rattle.placing.specs.calls.Placing.{corners_held, choice_as}
+use Rattle.placing.specs.deciding.Answer.{first_good}
+use Rattle.placing.specs.calls.Placing.{choice_as}
 use Rattle.placing.specs.theorems.Choice.{first-at-one}
 use Rattle.placing.specs.theorems.Answer.{NoneGood, firstGood-some, firstGood-none, first_found, none_found}
 use Rattle.placing.specs.code.Sites.{sites_of}
 use Rattle.placing.specs.search.State.{Walked}
 use Rattle.placing.specs.search.Decided.{walk-solution, walk-none-before}
-use Rattle.placing.specs.code.Labels.{way_of, labels, good-solution, solution-good}
+use Rattle.placing.specs.code.Labels.{labels, good-solution, solution-good}
 use Rattle.placing.specs.code.Steps.{WalkedTo}
 
 -- A list of corners, where an answer says yes.
@@ -30,8 +29,8 @@ abbrev pub choice_in : ℕ → Chosen → Option (List ℕ)
 choice_in n r = where_yes r.ok (take n r.corners)
 
 -- At the end of a walk the decisions of the n sites are the first good choice.
-decisions-first : (way : TwoWay) (h n : ℕ) (xs ys opens decided : List ℕ) → n ≤ length decided → Walked (labels way h n xs ys) n opens decided
-    → First (way_of way) h (sites_of n xs ys) (take n decided)
+decisions-first : (way : Way) (h n : ℕ) (xs ys opens decided : List ℕ) → n ≤ length decided → Walked (labels way h n xs ys) n opens decided
+    → First way h (sites_of n xs ys) (take n decided)
 decisions-first way h n xs ys opens decided few walked =
     record {
       good = solution-good way h n xs ys (take n decided) (walk-solution walked few);
@@ -39,8 +38,8 @@ decisions-first way h n xs ys opens decided few walked =
     }
 
 -- A walk over all sites leaves the first good choice, or there is none.
-pub walked-choice : (way : TwoWay) (h n : ℕ) (xs ys : List ℕ) (ok : Bool) (opens decided : List ℕ) → n ≤ most_sites
-    → WalkedTo (labels way h n xs ys) n ok opens decided → where_yes ok (take n decided) ≡ first_good (way_of way) h (sites_of n xs ys)
+pub walked-choice : (way : Way) (h n : ℕ) (xs ys : List ℕ) (ok : Bool) (opens decided : List ℕ) → n ≤ most_sites
+    → WalkedTo (labels way h n xs ys) n ok opens decided → where_yes ok (take n decided) ≡ first_good way h (sites_of n xs ys)
 walked-choice way h n xs ys true opens decided few walked =
     sym (first_found (decisions-first way h n xs ys opens decided (omega (arith, walked.sizes.decided_size)) (walked.walked refl)))
 walked-choice way h n xs ys false opens decided few walked =
@@ -55,16 +54,6 @@ take-ones (suc n) zero few = absurd (omega arith)
 take-ones (suc n) (suc k) few = ap (λ (l : List ℕ). 1 ∷ l) (take-ones n k (le_of_suc-le-suc few))
 
 module _ (way : Way) (h : ℕ) (ps : List Place) where
-  -- The first good choice, as the arrays hold it, read back.
-  pub choice-back : {n : ℕ} → length ps ≡ n
-      → where_yes (is_some (first_good way h ps)) (take n (corners_held (corners_of (first_good way h ps)))) ≡ first_good way h ps
-  choice-back {n} count = by-search (first_good way h ps) refl
-    where
-      by-search : (o : Option (List ℕ)) → first_good way h ps ≡ o → where_yes (is_some o) (take n (corners_held (corners_of o))) ≡ o
-      by-search none is = refl
-      by-search (some cs) is =
-          ap some (take_at cs (replicate (most_sites - length cs) 0) n ((firstGood-some is).good.corners.one_each ∙ count))
-
   -- Where no good choice exists.
   pub no-choice : NoneGood way h ps → record { exists = false; corners = replicate most_sites 0 } ≡ choice_as (first_good way h ps)
   no-choice none_good = sym (ap choice_as (none_found none_good))

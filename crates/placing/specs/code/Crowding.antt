@@ -3,15 +3,14 @@
 use Rattle.std.specs.Prelude.{◌≡◌, List, ℕ, ◌+◌, ◌-◌, ◌*◌, ◌/◌, ◌%◌, ◌≤◌, ◌<◌, max, length, get_or, replicate}
 use Rattle.std.proofs.Common.{le_trans, arith, below_more}
 use Rattle.std.proofs.Math.Decide.{dec_le}
-use Rattle.std.proofs.lemmas.List.{get_or-replicate}
 use Rattle.placing.specs.declared.crowding.Crowding.{Crowding}
 use Rattle.placing.specs.declared.units.HalfUnits.{HalfUnits}
 use Rattle.placing.specs.declared.units.Place.{Place}
 use Rattle.placing.specs.declared.way.Way.{Way}
-use Rattle.placing.specs.declared.way.Way.TheVariants.{Usual, Above, Small}
+use Rattle.placing.specs.declared.way.Way.TheVariants.{Usual, Above}
 use Rattle.placing.specs.rules.Units.{most_sites, free_side}
 use Rattle.placing.specs.rules.Corner.{Corner}
-use Rattle.placing.specs.rules.Choice.{corner_at, Allowed, uncrowded, upper, crowded_or_not, Good}
+use Rattle.placing.specs.rules.Choice.{corner_at, Allowed, uncrowded, upper, Good}
 use Rattle.placing.specs.deciding.Tests.{not-crowded, is-upper}
 use Rattle.placing.specs.search.Rows.{index_of}
 use Rattle.placing.specs.code.Filled.{Filled, filled_front}
@@ -161,19 +160,3 @@ crowding-above {n} {furthest} {k} {reaches} most double all filled ps =
     within i c corner reach (no high) =
         let none : reach_at reaches i c ≡ 0 = reach.at_lower (omega arith) in
         record { allows = λ h least inside reached. absurd (omega arith); shuts = λ h inside passed allowed. high (is-upper allowed) }
-
--- ---- on a small level
-
--- As far as can be for every corner: all are allowed at every side up to `most`, which is the top.
-pub crowding-small : {furthest : ℕ} (most : HalfUnits) → furthest ≡ 2 * most.0 → (ps : List Place) (n : ℕ) → n ≤ most_sites
-    → CrowdingIs Small most.0 ps n (record { reaches = replicate (4 * most_sites) furthest; top = most })
-crowding-small {furthest} most double ps n few =
-    record {
-      judged = omega arith;
-      reaches = record {
-        at_corner = λ i c listed corner.
-            let far = get_or-replicate (4 * most_sites) (index_of i c) furthest 0 (omega (arith, corner.most)) in
-            record { allows = λ h least inside reached. crowded_or_not; shuts = λ h inside passed. absurd (omega (arith, far)) };
-      };
-      none_above = record { none_good = λ h judged above. absurd (omega arith) };
-    }

@@ -8,14 +8,13 @@ use Rattle.placing.specs.declared.crowding.Crowding.{Crowding}
 use Rattle.placing.specs.declared.units.HalfUnits.{HalfUnits}
 use Rattle.placing.specs.declared.units.Place.{Place}
 use Rattle.placing.specs.declared.way.Way.{Way}
-use Rattle.placing.specs.declared.way.TwoWay.{TwoWay}
 use Rattle.placing.specs.rules.Units.{most_sites}
 use Rattle.placing.specs.rules.Corner.{Corner}
 use Rattle.placing.specs.rules.Choice.{Allowed}
 use Rattle.placing.specs.search.Rows.{index_of, row_of, row_at, open-corner}
 use Rattle.placing.specs.search.State.{Fresh}
 use Rattle.placing.specs.code.Sites.{sites_of}
-use Rattle.placing.specs.code.Labels.{way_of, labels}
+use Rattle.placing.specs.code.Labels.{labels}
 use Rattle.placing.specs.code.Filled.{Filled, filled_front}
 use Rattle.placing.specs.code.Pairs.{reach_at}
 use Rattle.placing.specs.code.Crowding.{AllowedWithin, ReachesAre}
@@ -34,7 +33,7 @@ OpenedBelow crowding side k opens =
 -- The state at a side before anything is decided, for every n sites that have these reaches.
 pub record FreshState (crowding : Crowding) (n : ℕ) (side : HalfUnits) (opens decided : List ℕ) : Type 0 where
   pub sizes : Sizes opens decided
-  pub fresh : (way : TwoWay) (xs ys : List ℕ) → 1 ≤ side.0 → side.0 ≤ crowding.top.0 → ReachesAre (way_of way) (sites_of n xs ys) n crowding
+  pub fresh : (way : Way) (xs ys : List ℕ) → 1 ≤ side.0 → side.0 ≤ crowding.top.0 → ReachesAre way (sites_of n xs ys) n crowding
       → Fresh (labels way side.0 n xs ys) opens decided
 
 module _ {way : Way} {ps : List Place} {top side i c reach byte : ℕ} (inside : side ≤ top) (known : AllowedWithin way ps top i c reach)

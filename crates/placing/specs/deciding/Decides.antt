@@ -34,9 +34,3 @@ decided {answer = false} d = no (d.no_fails refl)
 pub holds-yes : {answer : Bool} {Rule : Type 0} → Decides answer Rule → Rule → answer ≡ true
 holds-yes {answer = true} d holds = refl
 holds-yes {answer = false} d holds = absurd (d.no_fails refl holds)
-
--- Two answers that decide one rule are the same.
-pub decides-one : {one other : Bool} {Rule : Type 0} → Decides one Rule → Decides other Rule → one ≡ other
-decides-one {one = true} d e = sym (holds-yes e (d.yes_holds refl))
-decides-one {one = false} {other = false} d e = refl
-decides-one {one = false} {other = true} d e = absurd (d.no_fails refl (e.yes_holds refl))

@@ -93,7 +93,7 @@ corners-cons {n} {c} {cs} first rest = record { one_each = ap suc rest.one_each;
     each zero listed = first
     each (suc i) listed = rest.corner i (omega arith)
 
-pub corners-rest : {n c : ℕ} {cs : List ℕ} → Corners (suc n) (c ∷ cs) → Corners n cs
+corners-rest : {n c : ℕ} {cs : List ℕ} → Corners (suc n) (c ∷ cs) → Corners n cs
 corners-rest all = record { one_each = omega (arith, all.one_each); corner = λ i listed. all.corner (suc i) (omega arith) }
 
 -- A property of lists of corners for one site more, by the first corner.

@@ -9,14 +9,14 @@ use Rattle.placing.specs.declared.units.Growth.TheVariants.{UpTo, Never}
 use Rattle.placing.specs.declared.units.HalfUnits.{HalfUnits}
 use Rattle.placing.specs.declared.units.Place.{Place}
 use Rattle.placing.specs.declared.way.Way.{Way}
-use Rattle.placing.specs.declared.way.Way.TheVariants.{Usual, Above, Small}
+use Rattle.placing.specs.declared.way.Way.TheVariants.{Usual, Above}
 use Rattle.placing.specs.declared.corner.Direction.{Direction}
 use Rattle.placing.specs.declared.corner.Direction.TheVariants.{Up, Down}
 use Rattle.placing.specs.rules.Units.{Axis, X, Y, along, in_half_units, dist, site_at, Distinct}
 use Rattle.placing.specs.rules.Corner.{Corner, toward, opposite}
 use Rattle.placing.specs.rules.Label.{Onward, upward, downward, Overlap, same_direction, facing, Meet}
 use Rattle.placing.specs.rules.Crowd.{Ahead, DoubledCovers, Crowded}
-use Rattle.placing.specs.rules.Choice.{corner_at, Corners, Upper, Allowed, uncrowded, upper, crowded_or_not, Good, MeetingPair}
+use Rattle.placing.specs.rules.Choice.{corner_at, Corners, Upper, Allowed, uncrowded, upper, Good, MeetingPair}
 use Rattle.placing.specs.rules.Growth.{Exceeds, beyond}
 use Rattle.placing.specs.deciding.Growth.{up_to, facing_growth, growth_along, further_of, axis_growth, growth_of, exceeds_test}
 use Rattle.placing.specs.deciding.Decides.{Decides, decides-same, decides-second, decides-no, decides-yes, holds-yes}
@@ -312,12 +312,10 @@ is-upper (upper low) = low
 abbrev pub allowed_test : Way → ℕ → List Place → (i c : ℕ) → Bool
 allowed_test Usual h ps i c = not (crowded_test h ps i c)
 allowed_test Above h ps i c = leb c 2
-allowed_test Small h ps i c = true
 
 pub allowed-decides : (way : Way) (h : ℕ) (ps : List Place) (i c : ℕ) → Decides (allowed_test way h ps i c) (Allowed way h ps i c)
 allowed-decides Usual h ps i c = decides-same uncrowded not-crowded (not-decides (crowded-decides h ps i c))
 allowed-decides Above h ps i c = decides-same upper is-upper (le-decides c 2)
-allowed-decides Small h ps i c = decides-yes crowded_or_not
 
 abbrev pub good_test : Way → ℕ → List Place → List ℕ → Bool
 good_test way h ps cs =

@@ -1,4 +1,4 @@
--- Document 01, "The answer", and document 02, L1: the first good choice at a given side; each by a way of placing (L2, L5).
+-- Document 01, "The answer", and document 02, L1: the first good choice at a given side; each by a way of placing (L2).
 -- Assumes nothing.
 use Rattle.std.specs.Prelude.{◌≡◌, Bool, true, ◌&&◌, List, ℕ, ◌≤◌, ◌<◌, leb}
 use Rattle.std.proofs.Math.Option.{Option, none, some}
@@ -37,15 +37,14 @@ free cs = record { side = Free; corners = cs }
 
 -- "If a good choice exists at 20,001, .. the answer is free, with the first good choice at 20,001. Otherwise it is the greatest h that
 -- has a good choice, with the first good choice there." The first premise of a number is the document's "Otherwise". L2: "Free and first
--- mean what they do now", and above the spot the side is "the greatest that anybody can have under those two corners". L5: "the side is the
--- greatest that has one" of the choices that count there, and "Free holds as before".
+-- mean what they do now", and above the spot the side is "the greatest that anybody can have under those two corners".
 pub data IsAnswer (way : Way) (ps : List Place) : Answer → Type 0 where
   is_free : {cs : List ℕ} → First way free_side ps cs → IsAnswer way ps (free cs)
   is_number : {h : ℕ} {cs : List ℕ} → ((es : List ℕ) → Good way free_side ps es → ⊥) → 1 ≤ h → h ≤ greatest_side → First way h ps cs
       → ((k : ℕ) → h < k → (es : List ℕ) → Good way k ps es → ⊥) → IsAnswer way ps (numbered h cs)
 
 -- L1, "choosing the first good choice at a given side": that side with these corners. L2 adds "a second way to find a side and to choose
--- corners at a side", L5 a third.
+-- corners at a side".
 pub record IsChosen (way : Way) (ps : List Place) (answer : Answer) : Type 0 where
   pub given : is_side answer.side ≡ true
   pub first : First way (judged_at answer.side) ps answer.corners

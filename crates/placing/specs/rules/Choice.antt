@@ -1,11 +1,11 @@
--- Document 01, "Good choice at h", "First" and, of "What demand 3 counts", two labels that meet; and document 02, L2 and L5, the second and
--- the third way of placing. A choice is a list of corners, one for each site. The ways are `Usual`, document 01's; `Above`, L2's "labels
--- above the spot only"; and `Small`, L5's "best side for a small level".
+-- Document 01, "Good choice at h", "First" and, of "What demand 3 counts", two labels that meet; and document 02, L2, the second way of
+-- placing. A choice is a list of corners, one for each site. The ways are `Usual`, document 01's, and `Above`, L2's "labels above the spot
+-- only".
 -- Assumes nothing.
 use Rattle.std.specs.Prelude.{◌≡◌, List, ◌∷◌, ◌≢◌, ℕ, ◌≤◌, ◌<◌, length, get_or}
 use Rattle.placing.specs.declared.units.Place.{Place}
 use Rattle.placing.specs.declared.way.Way.{Way}
-use Rattle.placing.specs.declared.way.Way.TheVariants.{Usual, Above, Small}
+use Rattle.placing.specs.declared.way.Way.TheVariants.{Usual, Above}
 use Rattle.placing.specs.rules.Units.{site_at}
 use Rattle.placing.specs.rules.Corner.{Corner}
 use Rattle.placing.specs.rules.Label.{Meet}
@@ -38,15 +38,13 @@ pub record UpperCorners (n : ℕ) (cs : List ℕ) : Type 0 where
   pub each_upper : (i : ℕ) → i < n → Upper (corner_at cs i)
 
 -- Which corners a way of placing allows at h, of site number i. By the usual way those of which document 01 says "none crowded at h". Above
--- the spot the upper ones: "the crowding rule does not apply to it". On a small level all: "the four corners, crowded or not".
+-- the spot the upper ones: "the crowding rule does not apply to it".
 pub data Allowed : Way → (h : ℕ) → List Place → (i c : ℕ) → Type 0 where
   uncrowded : {h : ℕ} {ps : List Place} {i c : ℕ} → (Crowded h ps i c → ⊥) → Allowed Usual h ps i c
   upper : {h : ℕ} {ps : List Place} {i c : ℕ} → Upper c → Allowed Above h ps i c
-  crowded_or_not : {h : ℕ} {ps : List Place} {i c : ℕ} → Allowed Small h ps i c
 
 -- "Good choice at h. One corner for every site, none crowded at h, no two labels meeting at h", by the usual way. L2, above the spot: "any
--- choice of 1 and 2 without meeting labels counts". L5: "what counts is a choice of the four corners, crowded or not, with no two labels
--- meeting".
+-- choice of 1 and 2 without meeting labels counts".
 pub record Good (way : Way) (h : ℕ) (ps : List Place) (cs : List ℕ) : Type 0 where
   pub corners : Corners (length ps) cs
   pub allowed : (i : ℕ) → i < length ps → Allowed way h ps i (corner_at cs i)
@@ -63,7 +61,7 @@ pub data Before : List ℕ → List ℕ → Type 0 where
   later : {c : ℕ} {cs es : List ℕ} → Before cs es → Before (c ∷ cs) (c ∷ es)
 
 -- "First means: lowest corner for the first site, then for the second, and so on, among good choices only." L2: "Free and first mean what
--- they do now"; L5: "the corners are the first such choice".
+-- they do now", by either way.
 pub record First (way : Way) (h : ℕ) (ps : List Place) (cs : List ℕ) : Type 0 where
   pub good : Good way h ps cs
   pub none_before : (es : List ℕ) → Good way h ps es → Before es cs → ⊥

@@ -7,10 +7,6 @@ use Rattle.placing.specs.declared.units.Place.{Place}
 abbrev pub most_sites : ℕ
 most_sites = 240
 
--- Document 02, L5: "For at most ten sites".
-abbrev pub most_small_sites : ℕ
-most_small_sites = 10
-
 -- "Coordinates are whole units from 0 to 10,000."
 abbrev pub greatest_coordinate : ℕ
 greatest_coordinate = 10000

@@ -42,7 +42,7 @@ open-corner opens i c is_open = (corner-decides c).yes_holds (tested (corner_tes
 pub row_same : (opens opens' : List ℕ) (i c : ℕ) → (Corner c → get_or opens' (index_of i c) 0 ≡ get_or opens (index_of i c) 0)
     → row_of opens' i c ≡ row_of opens i c
 unfolding row_of
-row_same opens opens' i c same = tested (corner_test c) (λ is_corner. same ((corner-decides c).yes_holds is_corner))
+row_same opens opens' i c same = tested (corner_test c) (λ is-corner. same ((corner-decides c).yes_holds is-corner))
   where
     tested : {a b : ℕ} (test : Bool) → (test ≡ true → a ≡ b) → cond test a 0 ≡ cond test b 0
     tested true equal = equal refl

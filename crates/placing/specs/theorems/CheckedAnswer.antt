@@ -17,8 +17,7 @@ use Rattle.placing.specs.deciding.Tests.{le-decides, eq-decides, both-decide, di
 use Rattle.placing.specs.deciding.Enumerate.{FirstWith, found, missing, found_first, nothing-found}
 use Rattle.placing.specs.deciding.Answer.{first_good, answer_of}
 use Rattle.placing.specs.theorems.Answer.{first_found, none_found, answer-found, answer-free}
-use Rattle.placing.specs.deciding.Pruned.{pruned_first}
-use Rattle.placing.specs.theorems.PrunedSearch.{pruned-first}
+use Rattle.placing.specs.theorems.PrunedSearch.{pruned_first, pruned-first}
 
 -- Two lists of corners are equal.
 abbrev pub equal_test : List ℕ → List ℕ → Bool

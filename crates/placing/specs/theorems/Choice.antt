@@ -7,12 +7,12 @@ use Rattle.std.proofs.Math.Decide.{ℕ_discrete, dec_lt}
 use Rattle.std.proofs.lemmas.List.{length-replicate, get_or-replicate}
 use Rattle.placing.specs.declared.units.Place.{Place}
 use Rattle.placing.specs.declared.way.Way.{Way}
-use Rattle.placing.specs.declared.way.Way.TheVariants.{Usual, Above, Small}
+use Rattle.placing.specs.declared.way.Way.TheVariants.{Usual, Above}
 use Rattle.placing.specs.rules.Units.{Axis, along, dist, site_at, greatest_coordinate, free_side, Distinct, InRange}
 use Rattle.placing.specs.rules.Corner.{Corner}
 use Rattle.placing.specs.rules.Label.{Meet}
 use Rattle.placing.specs.rules.Crowd.{Crowded}
-use Rattle.placing.specs.rules.Choice.{corner_at, Corners, UpperCorners, MeetingPair, Allowed, uncrowded, upper, crowded_or_not, Good, First}
+use Rattle.placing.specs.rules.Choice.{corner_at, Corners, UpperCorners, MeetingPair, Allowed, uncrowded, upper, Good, First}
 use Rattle.placing.specs.rules.Choice.{Before, lower, later}
 use Rattle.placing.specs.deciding.Decides.{Decides}
 use Rattle.placing.specs.deciding.Tests.{is-upper, good_test, good-decides}
@@ -40,7 +40,6 @@ meeting-at pair = meeting-of pair.first pair.second pair.first_listed pair.secon
 allowed-smaller : {way : Way} {h k : ℕ} {ps : List Place} {i c : ℕ} → k ≤ h → Allowed way h ps i c → Allowed way k ps i c
 allowed-smaller smaller (uncrowded none) = uncrowded (λ crowded. none (crowded-larger smaller crowded))
 allowed-smaller smaller (upper low) = upper low
-allowed-smaller smaller crowded_or_not = crowded_or_not
 
 -- and so, "a good choice at h is one at every smaller side".
 pub good-smaller : {way : Way} {h k : ℕ} {ps : List Place} {cs : List ℕ} → k ≤ h → Good way h ps cs → Good way k ps cs
@@ -86,7 +85,6 @@ good-upper good = record { corners = good.corners; each_upper = λ i listed. is-
 one-allowed : {ps : List Place} → Distinct ps → (way : Way) (i : ℕ) → i < length ps → Allowed way 1 ps i 1
 one-allowed places Usual i listed = uncrowded (none-crowded places i 1 listed)
 one-allowed places Above i listed = upper {c = 1} (omega arith)
-one-allowed places Small i listed = crowded_or_not
 
 -- "A good choice exists at h = 1 always": corner 1 for every site.
 pub good-one-exists : {way : Way} {ps : List Place} → Distinct ps → Good way 1 ps (replicate (length ps) 1)
@@ -119,7 +117,6 @@ module _ {ps : List Place} (range : InRange ps) where
       none (crowded-at (λ j j-listed covers axis.
       record { onward = (covers axis).onward; near = omega (arith, none-further listed j-listed axis) }) crowded))
   allowed-at-free listed h (upper low) = upper low
-  allowed-at-free listed h crowded_or_not = crowded_or_not
 
   -- and so, "if a good choice exists at 20,001, it is good at every side".
   pub good-at-free : {way : Way} {cs : List ℕ} → Good way free_side ps cs → (h : ℕ) → Good way h ps cs

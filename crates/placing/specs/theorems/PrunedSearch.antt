@@ -1,43 +1,51 @@
--- Laws of deciding/Pruned: the search that goes back finds the first good choice.
+-- A search for the first good choice that a checker can run: site after site in list order, corners 1 to 4, without the corners
+-- that are not allowed or meet the label of an earlier site.
 -- Assumes nothing.
-use Rattle.std.specs.Prelude.{◌≡◌, refl, Bool, true, false, List, [], ◌∷◌, ◌++◌, ℕ, zero, suc, ◌+◌, ◌-◌, ◌≤◌, ◌<◌, length}
-use Rattle.std.proofs.Common.{sym, ap, ◌∙◌, subst, subst₂, arith, length-append, get_or-append-add}
-use Rattle.std.proofs.Math.Option.{Option, none}
+use Rattle.std.specs.Prelude.{◌≡◌, refl, Bool, true, false, not, ◌&&◌, List, [], ◌∷◌, ◌++◌, ℕ, zero, suc, ◌+◌, ◌≤◌, ◌<◌, length}
+use Rattle.std.proofs.Common.{sym, subst, subst₂, arith, length-append}
+use Rattle.std.proofs.Math.Option.{Option, none, some}
 use Rattle.std.proofs.Math.Decide.{ℕ_discrete, dec_lt}
 use Rattle.std.proofs.Math.ListN.{get_or-append}
-use Rattle.std.proofs.Math.Seq.{append_snoc, get_or-append_seam}
+use Rattle.std.proofs.Math.Seq.{append_snoc}
 use Rattle.placing.specs.declared.units.Place.{Place}
 use Rattle.placing.specs.declared.way.Way.{Way}
 use Rattle.placing.specs.rules.Units.{site_at}
-use Rattle.placing.specs.rules.Corner.{Corner}
 use Rattle.placing.specs.rules.Label.{Meet}
 use Rattle.placing.specs.rules.Choice.{corner_at, Corners, MeetingPair, Allowed, Good}
 use Rattle.placing.specs.deciding.Decides.{Decides, decides-same}
-use Rattle.placing.specs.deciding.Tests.{both-decide, not-decides, all-decides, meet-decides, allowed-decides}
-use Rattle.placing.specs.deciding.Pruned.{fits_test, go_on, pruned_first}
-use Rattle.placing.specs.deciding.Enumerate.{FirstWith, found, missing, first-with-same, by-first-corner}
-use Rattle.placing.specs.deciding.Enumerate.{no-corners, before-some, nothing-found, finds-nothing, corners-rest}
+use Rattle.placing.specs.deciding.Tests.{both-decide, not-decides, all_below, all-decides, meet_test, meet-decides, allowed_test}
+use Rattle.placing.specs.deciding.Tests.{allowed-decides}
+use Rattle.placing.specs.deciding.Enumerate.{try_corners, FirstWith, found, missing, first-with-same, by-first-corner}
+use Rattle.placing.specs.deciding.Enumerate.{no-corners, before-some}
 use Rattle.placing.specs.theorems.Label.{meet-symmetric}
 use Rattle.placing.specs.theorems.Choice.{meeting-of}
 
--- Two lists that differ in one place have the same corners elsewhere.
-elsewhere : (before : List ℕ) (c d : ℕ) (cs : List ℕ) (j : ℕ) → (j ≡ length before → ⊥)
-    → corner_at (before ++ d ∷ cs) j ≡ corner_at (before ++ c ∷ cs) j
-elsewhere [] c d cs zero other = absurd (other refl)
-elsewhere [] c d cs (suc j) other = refl
-elsewhere (b ∷ before) c d cs zero other = refl
-elsewhere (b ∷ before) c d cs (suc j) other = elsewhere before c d cs j (λ same. other (ap suc same))
-
 -- The corner of site number i is allowed, and its label meets that of no earlier site.
-pub record Fits (way : Way) (h : ℕ) (ps : List Place) (cs : List ℕ) (i : ℕ) : Type 0 where
-  pub allowed : Allowed way h ps i (corner_at cs i)
-  pub apart : (j : ℕ) → j < i → Meet h 1 (site_at ps j) (corner_at cs j) (site_at ps i) (corner_at cs i) → ⊥
+record Fits (way : Way) (h : ℕ) (ps : List Place) (cs : List ℕ) (i : ℕ) : Type 0 where
+  allowed : Allowed way h ps i (corner_at cs i)
+  apart : (j : ℕ) → j < i → Meet h 1 (site_at ps j) (corner_at cs j) (site_at ps i) (corner_at cs i) → ⊥
 
-pub fits-decides : (way : Way) (h : ℕ) (ps : List Place) (cs : List ℕ) (i : ℕ) → Decides (fits_test way h ps cs i) (Fits way h ps cs i)
+abbrev pub fits_test : Way → ℕ → List Place → List ℕ → ℕ → Bool
+fits_test way h ps cs i =
+    allowed_test way h ps i (corner_at cs i)
+    && all_below i (λ j. not (meet_test h 1 (site_at ps j) (corner_at cs j) (site_at ps i) (corner_at cs i)))
+
+fits-decides : (way : Way) (h : ℕ) (ps : List Place) (cs : List ℕ) (i : ℕ) → Decides (fits_test way h ps cs i) (Fits way h ps cs i)
 fits-decides way h ps cs i =
     decides-same (λ r. record { allowed = r.0; apart = r.1 }) (λ r. (r.allowed, r.apart))
     (both-decide (allowed-decides way h ps i (corner_at cs i))
     (all-decides _ i (λ j. not-decides (meet-decides h 1 (site_at ps j) (corner_at cs j) (site_at ps i) (corner_at cs i)))))
+
+-- The first n corners with which to go on from the corners `before`.
+abbrev pub go_on : Way → ℕ → List Place → (n : ℕ) → (before : List ℕ) → Option (List ℕ)
+go_on way h ps zero before = some []
+go_on way h ps (suc n) before =
+    try_corners (λ c.
+    elim (fits_test way h ps (before ++ c ∷ []) (length before)) [ true ↦ go_on way h ps n (before ++ c ∷ []) | false ↦ none ])
+
+-- The first good choice at side h.
+abbrev pub pruned_first : Way → ℕ → List Place → Option (List ℕ)
+pruned_first way h ps = go_on way h ps (length ps) []
 
 module _ (way : Way) (h : ℕ) (ps : List Place) where
   -- A choice is good exactly when the corner of every site fits.
@@ -121,49 +129,6 @@ module _ (way : Way) (h : ℕ) (ps : List Place) where
       by-first-corner n _ (λ c corner.
       by-fit before c (fits_test way h ps (before ++ c ∷ []) (length before)) (fits-decides way h ps (before ++ c ∷ []) (length before))
       (omega arith) (goes_on n (before ++ c ∷ []) (omega (arith, one_more before c))))
-
-  -- If c leads nowhere, and its label meets none that a site behind it can have, then no other corner of that site leads anywhere: with c
-  -- in its place, what follows would fit as well.
-  module _ (n : ℕ) (before : List ℕ) (c : ℕ) (all : length before + suc n ≡ length ps)
-      (alone : (j e : ℕ) → length before < j → j < length ps → Corner e → Meet h 1 (site_at ps (length before)) c (site_at ps j) e → ⊥) where
-    still-fits : (d : ℕ) (cs : List ℕ) → Corners (suc n) (d ∷ cs) → (i : ℕ) → suc (length before) ≤ i → i < length ps
-        → Fits way h ps (before ++ d ∷ cs) i → Fits way h ps (before ++ c ∷ cs) i
-    still-fits d cs corners i behind listed fit =
-        record {
-          allowed = subst (Allowed way h ps i) own fit.allowed;
-          apart = λ j earlier meet. by_place j earlier (ℕ_discrete j (length before)) meet;
-        }
-      where
-        own : corner_at (before ++ d ∷ cs) i ≡ corner_at (before ++ c ∷ cs) i
-        own = elsewhere before c d cs i (λ same. omega arith)
-
-        corner : Corner (corner_at (before ++ c ∷ cs) i)
-        corner =
-            let place : length before + (i - length before) ≡ i = omega arith in
-            subst Corner
-            (sym (get_or-append-add before (d ∷ cs) (i - length before) 0) ∙ ap (corner_at (before ++ d ∷ cs)) place ∙ own)
-            (corners.corner (i - length before) (omega arith))
-
-        by_place : (j : ℕ) → j < i → Dec (j ≡ length before)
-            → Meet h 1 (site_at ps j) (corner_at (before ++ c ∷ cs) j) (site_at ps i) (corner_at (before ++ c ∷ cs) i) → ⊥
-        by_place j earlier (yes there) meet =
-            alone i (corner_at (before ++ c ∷ cs) i) (omega arith) listed corner
-            (rw (there, get_or-append_seam before c cs 0) at meet)
-        by_place j earlier (no other) meet =
-            fit.apart j earlier
-            (subst₂ (λ e f. Meet h 1 (site_at ps j) e (site_at ps i) f) (sym (elsewhere before c d cs j other)) (sym own) meet)
-
-    pub nothing-leads : go_on way h ps n (before ++ c ∷ []) ≡ none → go_on way h ps (suc n) before ≡ none
-    nothing-leads nowhere = finds-nothing (goes_on (suc n) before all) none-fit
-      where
-        none-fit : (cs : List ℕ) → FitAfter (suc n) before cs → ⊥
-        none-fit [] (corners, fit) = omega (arith, corners.one_each)
-        none-fit (d ∷ cs) (corners, fit) =
-            nothing-found (goes_on n (before ++ c ∷ []) (omega (arith, one_more before c))) nowhere cs (
-              corners-rest corners,
-              subst₂ FitsFrom (sym (one_more before c)) (sym (append_snoc before c cs))
-                  (record { fits-from = λ i from listed. still-fits d cs corners i from listed (fit.fits-from i (omega arith) listed) }),
-            )
 
   -- The pruned search finds the first good choice.
   pub pruned-first : FirstWith (Good way h ps) (pruned_first way h ps)

@@ -85,29 +85,28 @@ abbrev pub side_answer : Result Side → AskedSide
 side_answer (accepted side) = SideIs side
 side_answer (refused why) = NoSide why
 
--- Finding the side by a way, and the table afterwards, which looks at the tests alone. L1: "Finding leaves the plan as it was": it hands
--- back none.
+-- Finding the side by a way, and the table afterwards, which looks at the tests alone: it is the same by either way. L1: "Finding leaves the
+-- plan as it was": it hands back none.
 abbrev pub side_found : Plan → Way → List ℕ → Result Side
-side_found plan way table = after_tests (finding_tests way plan.count (length table)) (answer_of way (places_of (sites_in plan))).side
+side_found plan way table = after_tests (finding_tests plan.count (length table)) (answer_of way (places_of (sites_in plan))).side
 
 abbrev pub found_in : Plan → Way → List ℕ → AskedSide
 found_in plan way table = side_answer (side_found plan way table)
 
-abbrev pub table_found : Plan → Way → List ℕ → List ℕ
-table_found plan way table =
-    bytes_after (after_tests (finding_tests way plan.count (length table)) plan) (cleared plan.count table) table
+abbrev pub table_found : Plan → List ℕ → List ℕ
+table_found plan table = bytes_after (after_tests (finding_tests plan.count (length table)) plan) (cleared plan.count table) table
 
 -- Choosing by a way at a given side: the side with the first good choice there. Then the plan, and the table afterwards.
 abbrev pub chosen_for : Plan → Way → Side → List ℕ → Result Answer
 chosen_for plan way side table =
-    after_tests (choosing_tests way side plan.count (length table) (exists_at way side (sites_in plan))) (chosen_at way side (places_of (sites_in plan)))
+    after_tests (choosing_tests side plan.count (length table) (exists_at way side (sites_in plan))) (chosen_at way side (places_of (sites_in plan)))
 
 abbrev pub chosen_in : Plan → Way → Side → List ℕ → Planned
 chosen_in plan way side table = handed (placed_with (sites_in plan) way) plan (chosen_for plan way side table)
 
-abbrev pub table_chosen : Plan → Way → Side → List ℕ → List ℕ
-table_chosen plan way side table =
-    bytes_after (after_tests (before_choice way side plan.count (length table)) side) (cleared plan.count table) table
+abbrev pub table_chosen : Plan → Side → List ℕ → List ℕ
+table_chosen plan side table =
+    bytes_after (after_tests (before_choice side plan.count (length table)) side) (cleared plan.count table) table
 
 -- L1: "The plan remembers the side it was placed at, and the sheet prints that one": that side with the first good choice there, by the way
 -- that it was placed.
@@ -148,13 +147,13 @@ written_in plan buffer = written_answer (length_written plan buffer)
 abbrev pub buffer_after : Plan → List ℕ → List ℕ
 buffer_after plan buffer = bytes_after (length_written plan buffer) (filled_with (sheet_for plan) buffer) buffer
 
--- Reading a list and placing it by a way: where it is refused, has no sites or too many, an empty plan.
+-- Reading a list and placing it by a way: where it is refused or has no sites, an empty plan.
 abbrev pub list_placed : Way → List ℕ → Planned
-list_placed way text = handed (placed_plan way) started (to_place way (read_list text))
+list_placed way text = handed (placed_plan way) started (to_place (read_list text))
 
 -- The same at a given side: an empty plan where there is no good choice, too.
 abbrev pub placed_at : Way → Side → List Site → Plan
 placed_at way side sites = placed_with sites way (chosen_at way side (places_of sites))
 
 abbrev pub list_placed_at : Way → Side → List ℕ → Planned
-list_placed_at way side text = handed (placed_at way side) started (to_place_at way side (exists_at way side) (read_list text))
+list_placed_at way side text = handed (placed_at way side) started (to_place_at side (exists_at way side) (read_list text))

@@ -1,7 +1,7 @@
 -- Document 01, "Calls on a plan": what a plan's record holds. "A plan is what these calls hand back, kept or copied but never
 -- patched by hand."
 -- Assumes nothing.
-use Rattle.std.specs.Prelude.{true, false, List, [], ◌∷◌, ◌++◌, map, ℕ, ◌-◌, length, take, replicate}
+use Rattle.std.specs.Prelude.{true, false, List, [], ◌∷◌, ◌++◌, map, ℕ, ◌-◌, ◌≤◌, length, take, replicate}
 use Rattle.placing.specs.declared.units.Place.{Place}
 use Rattle.placing.specs.declared.units.Side.TheVariants.{Free}
 use Rattle.placing.specs.declared.way.Way.{Way}
@@ -14,7 +14,6 @@ use Rattle.plan.specs.declared.name.Name.{Name}
 use Rattle.plan.specs.declared.plan.Plan.{Plan}
 use Rattle.plan.specs.rules.Text.{most_name_bytes}
 use Rattle.plan.specs.rules.List.{Site, places_of, Listed}
-use Rattle.plan.specs.rules.Calls.{Takes}
 
 -- The record of a name: its bytes, then zeros.
 abbrev pub name_of : List ℕ → Name
@@ -49,8 +48,7 @@ unplaced_plan sites =
     }
 
 -- The plan of some sites once it is placed by a way at a side with these corners. L1: "The plan remembers the side it was placed at";
--- and the way, since by L2 a sheet's list gives it again "when placed the same way at the same side", and by L5 "when placed this way at
--- the same side".
+-- and the way, since by L2 a sheet's list gives it again "when placed the same way at the same side".
 unfoldable pub placed_with : List Site → Way → Answer → Plan
 placed_with sites way answer =
     record {
@@ -77,8 +75,8 @@ sites_from (name ∷ names) (place ∷ places) = record { name = name_held name;
 unfoldable pub sites_in : Plan → List Site
 sites_in plan = sites_from (take plan.count plan.names) (take plan.count plan.places)
 
--- A plan that the calls hand back: placed by a way that takes its sites, at a side, it has the first good choice there.
+-- A plan that the calls hand back: placed by a way at a side, it has the first good choice there.
 pub data Valid : Plan → Type 0 where
   is_unplaced : (sites : List Site) → Listed sites → Valid (unplaced_plan sites)
-  is_placed : (sites : List Site) (way : Way) (answer : Answer) → Listed sites → Takes way (length sites) → IsChosen way (places_of sites) answer
+  is_placed : (sites : List Site) (way : Way) (answer : Answer) → Listed sites → 1 ≤ length sites → IsChosen way (places_of sites) answer
       → Valid (placed_with sites way answer)

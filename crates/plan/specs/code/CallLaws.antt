@@ -1,7 +1,7 @@
 -- The answers of the calls, test by test.
 -- Assumes nothing.
 use Rattle.std.specs.Prelude.{◌≡◌, refl, true, false, List, [], ◌∷◌, ℕ, ◌≤◌, ◌<◌, length, get_or}
-use Rattle.std.proofs.Common.{sym, ap, ◌∙◌, subst}
+use Rattle.std.proofs.Common.{sym, ap, ◌∙◌, subst, arith}
 use Rattle.std.proofs.Math.Option.{Option, some, none}
 use borrow.Author.Tests.{le-leb, lt-leb}
 use Rattle.placing.specs.declared.units.Side.{Side}
@@ -19,7 +19,7 @@ use Rattle.plan.specs.declared.plan.AskedSide.TheVariants.{SideIs, NoSide}
 use Rattle.plan.specs.declared.plan.AskedCorner.TheVariants.{CornerIs, NoCorner}
 use Rattle.plan.specs.rules.Refusal.{first_refusal, number_by, Result, accepted, refused, unless}
 use Rattle.plan.specs.rules.List.{Site, places_of, Listed}
-use Rattle.plan.specs.rules.Calls.{Takes, finding_tests, choosing_tests, before_choice, no_good, cleared, bytes_after}
+use Rattle.plan.specs.rules.Calls.{finding_tests, choosing_tests, before_choice, no_good, cleared, bytes_after}
 use Rattle.plan.specs.deciding.Output.{exists_at}
 use Rattle.plan.specs.calls.Plan.{unplaced_plan, placed_with, sites_in, Valid, is_unplaced, is_placed}
 use Rattle.plan.specs.calls.Answers.{
@@ -59,61 +59,60 @@ accepts plan {after} {sites} {more} listed same is-accepted = (
   subst Valid (sym same) (is_unplaced more listed),
 )
 
--- ---- finding: tests 8, 13, 11
+-- ---- finding: tests 8, 11
 
 -- What is promised of finding.
 abbrev pub FindPromised : Plan → Way → List ℕ → AskedSide → List ℕ → Type 0
 FindPromised plan way table r left =
     (r ≡ found_in plan way table)
-    × ((left ≡ table_found plan way table)
-    × (FindTold plan way table r left
+    × ((left ≡ table_found plan table)
+    × (FindTold plan table r left
     × (side_carried r
-    ≡ carried_at (number_by (finding_tests way plan.count (length table))) (side_number (answer_of way (places_of (sites_in plan))).side))))
+    ≡ carried_at (number_by (finding_tests plan.count (length table))) (side_number (answer_of way (places_of (sites_in plan))).side))))
 
 module _ (plan : Plan) (way : Way) (table : List ℕ) where
   -- All of it follows from the first refusal, the side and the table.
-  find-promised : {r : AskedSide} {left : List ℕ} (first : Option Refusal) → first_refusal (finding_tests way plan.count (length table)) ≡ first
+  find-promised : {r : AskedSide} {left : List ℕ} (first : Option Refusal) → first_refusal (finding_tests plan.count (length table)) ≡ first
       → r ≡ side_answer (unless first (answer_of way (places_of (sites_in plan))).side)
       → left ≡ bytes_after (unless first plan) (cleared plan.count table) table → FindPromised plan way table r left
   find-promised {r} {left} first is r-is left_is =
       let side = (answer_of way (places_of (sites_in plan))).side in
       let found : r ≡ found_in plan way table = r-is ∙ ap (λ (f : Option Refusal). side_answer (unless f side)) (sym is) in
-      let left_so : left ≡ table_found plan way table
+      let left_so : left ≡ table_found plan table
       = left_is ∙ ap (λ (f : Option Refusal). bytes_after (unless f plan) (cleared plan.count table) table) (sym is) in
       (found, (left_so, find-told plan way table found left_so))
 
   -- Refused, finding changes nothing.
-  pub find-refuses : {why : Refusal} → first_refusal (finding_tests way plan.count (length table)) ≡ some why
+  pub find-refuses : {why : Refusal} → first_refusal (finding_tests plan.count (length table)) ≡ some why
       → FindPromised plan way table (NoSide why) table
   find-refuses {why} is = find-promised (some why) is refl refl
 
   -- Accepted, it tells the side and has cleared the table.
-  pub find-accepts : {side : Side} {left : List ℕ} → first_refusal (finding_tests way plan.count (length table)) ≡ none
+  pub find-accepts : {side : Side} {left : List ℕ} → first_refusal (finding_tests plan.count (length table)) ≡ none
       → side ≡ (answer_of way (places_of (sites_in plan))).side → left ≡ cleared plan.count table
       → FindPromised plan way table (SideIs side) left
   find-accepts is side-is left_is = find-promised none is (ap SideIs side-is) left_is
 
--- ---- choosing at a given side: tests 3, 8, 13, 11, 12
+-- ---- choosing at a given side: tests 3, 8, 11, 12
 
 -- What is promised of choosing.
 abbrev pub ChoosePromised : Plan → Way → Side → List ℕ → Planned → List ℕ → Type 0
 ChoosePromised plan way side table r left =
-    (r ≡ chosen_in plan way side table) × ((left ≡ table_chosen plan way side table) × (Valid r.plan × ChooseTold plan way side table r left))
+    (r ≡ chosen_in plan way side table) × ((left ≡ table_chosen plan side table) × (Valid r.plan × ChooseTold plan way side table r left))
 
 -- The refusal of the tests before 12: 3 where the side cannot be given, else that of finding.
-pub outside-first : (way : Way) (side : Side) (n bytes : ℕ) → is_side side ≡ false
-    → first_refusal (before_choice way side n bytes) ≡ some why.BadNumber
-outside-first way side n bytes given = rw given
+pub outside-first : (side : Side) (n bytes : ℕ) → is_side side ≡ false → first_refusal (before_choice side n bytes) ≡ some why.BadNumber
+outside-first side n bytes given = rw given
 
-pub given-first : (way : Way) (side : Side) (n bytes : ℕ) {first : Option Refusal} → is_side side ≡ true
-    → first_refusal (finding_tests way n bytes) ≡ first → first_refusal (before_choice way side n bytes) ≡ first
-given-first way side n bytes given is = rw given is
+pub given-first : (side : Side) (n bytes : ℕ) {first : Option Refusal} → is_side side ≡ true → first_refusal (finding_tests n bytes) ≡ first
+    → first_refusal (before_choice side n bytes) ≡ first
+given-first side n bytes given is = rw given is
 
 module _ {plan : Plan} (valid : Valid plan) (way : Way) (side : Side) (table : List ℕ) where
   -- All of it follows from the refusal of all tests, and from that of the tests before 12.
   choose-promised : {r : Planned} {left : List ℕ} (first early : Option Refusal)
-      → first_refusal (choosing_tests way side plan.count (length table) (exists_at way side (sites_in plan))) ≡ first
-      → first_refusal (before_choice way side plan.count (length table)) ≡ early
+      → first_refusal (choosing_tests side plan.count (length table) (exists_at way side (sites_in plan))) ≡ first
+      → first_refusal (before_choice side plan.count (length table)) ≡ early
       → r ≡ handed (placed_with (sites_in plan) way) plan (unless first (chosen_at way side (places_of (sites_in plan))))
       → left ≡ bytes_after (unless early side) (cleared plan.count table) table → Valid r.plan
       → ChoosePromised plan way side table r left
@@ -121,37 +120,37 @@ module _ {plan : Plan} (valid : Valid plan) (way : Way) (side : Side) (table : L
       let answer = chosen_at way side (places_of (sites_in plan)) in
       let is : r ≡ chosen_in plan way side table
       = r-is ∙ ap (λ (f : Option Refusal). handed (placed_with (sites_in plan) way) plan (unless f answer)) (sym first-is) in
-      let left_so : left ≡ table_chosen plan way side table
+      let left_so : left ≡ table_chosen plan side table
       = left_is ∙ ap (λ (f : Option Refusal). bytes_after (unless f side) (cleared plan.count table) table) (sym early-is) in
       (is, (left_so, (after-valid, choose-told plan way side table is left_so)))
 
   -- Refused before 12, choosing changes nothing.
-  pub choose-refuses : {r : Planned} {why : Refusal} → first_refusal (before_choice way side plan.count (length table)) ≡ some why
+  pub choose-refuses : {r : Planned} {why : Refusal} → first_refusal (before_choice side plan.count (length table)) ≡ some why
       → r ≡ refusal-of plan why → ChoosePromised plan way side table r table
   choose-refuses {r} {why} early is =
-      choose-promised (some why) (some why) (first-early (before_choice way side plan.count (length table)) (no_good (exists_at way side (sites_in plan)) ∷ []) early) early is refl
+      choose-promised (some why) (some why) (first-early (before_choice side plan.count (length table)) (no_good (exists_at way side (sites_in plan)) ∷ []) early) early is refl
       (subst (λ (p : Planned). Valid p.plan) (sym is) valid)
 
-  module _ (early : first_refusal (before_choice way side plan.count (length table)) ≡ none) {r : Planned} {left : List ℕ}
+  module _ (early : first_refusal (before_choice side plan.count (length table)) ≡ none) {r : Planned} {left : List ℕ}
       (left_is : left ≡ cleared plan.count table) where
     -- Where no good choice exists, the table alone is changed.
     pub choose-none : exists_at way side (sites_in plan) ≡ false → r ≡ refusal-of plan why.NoGoodChoice
         → ChoosePromised plan way side table r left
     choose-none none_good is =
         choose-promised (some why.NoGoodChoice) none
-        (first-late (before_choice way side plan.count (length table)) (no_good (exists_at way side (sites_in plan)) ∷ []) early ∙ rw none_good) early is left_is
+        (first-late (before_choice side plan.count (length table)) (no_good (exists_at way side (sites_in plan)) ∷ []) early ∙ rw none_good) early is left_is
         (subst (λ (p : Planned). Valid p.plan) (sym is) valid)
 
     -- Accepted, it hands back the plan placed at the side.
-    pub choose-accepts : exists_at way side (sites_in plan) ≡ true → is_side side ≡ true → Takes way plan.count
+    pub choose-accepts : exists_at way side (sites_in plan) ≡ true → is_side side ≡ true → 1 ≤ plan.count
         → r ≡ record { outcome = Done; plan = placed_with (sites_in plan) way (chosen_at way side (places_of (sites_in plan))) }
         → ChoosePromised plan way side table r left
-    choose-accepts there given takes is =
+    choose-accepts there given some_sites is =
         let holding = valid-holding valid in
         choose-promised none none
-        (first-late (before_choice way side plan.count (length table)) (no_good (exists_at way side (sites_in plan)) ∷ []) early ∙ rw there) early is left_is
+        (first-late (before_choice side plan.count (length table)) (no_good (exists_at way side (sites_in plan)) ∷ []) early ∙ rw there) early is left_is
         (subst (λ (p : Planned). Valid p.plan) (sym is)
-        (is_placed (sites_in plan) way _ holding.listed (rw holding.count at takes) (chosen_is way (places_of (sites_in plan)) side given there)))
+        (is_placed (sites_in plan) way _ holding.listed (omega (arith, holding.count)) (chosen_is way (places_of (sites_in plan)) side given there)))
 
 -- ---- asking: tests 9, 6
 

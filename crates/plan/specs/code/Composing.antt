@@ -214,7 +214,7 @@ module _ (sites : List Site) (way : Way) (answer : Answer) (listed : Listed site
 pub printable : {plan : Plan} → Valid plan → plan.placed ≡ true → Printable plan
 unfolding unplaced_plan
 printable (is_unplaced sites listed) placed = absurd (false≢true placed)
-printable (is_placed sites way answer listed takes chosen) placed = placed-printable sites way answer listed chosen
+printable (is_placed sites way answer listed nonempty chosen) placed = placed-printable sites way answer listed chosen
 
 -- ---- the lines written so far
 

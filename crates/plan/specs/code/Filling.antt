@@ -1,11 +1,10 @@
 -- A sheet that was made in an array of its own and copied to the front of a buffer; and the output, which is made in the buffer.
 -- Assumes nothing.
-use Rattle.std.proofs.Math.Path.{◌≡◌, refl, ap}
-use Rattle.std.proofs.Common.{sym, ◌∙◌, subst, mul-le-mul, arith}
-use Rattle.std.specs.Prelude.{true, false, ℕ, ◌*◌, ◌≤◌, ◌<◌, drop}
+use Rattle.std.proofs.Math.Path.{◌≡◌, refl, sym, ap, subst}
+use Rattle.std.proofs.Common.{◌∙◌, mul-le-mul, arith}
+use Rattle.std.specs.Prelude.{Bool, true, false, not, ℕ, ◌*◌, ◌≤◌, ◌<◌, eqb, drop}
 use Rattle.std.proofs.lemmas.Bool.{false≢true}
-use mathlib.Core.List.{List, [], ◌∷◌, ◌++◌}
-use Rattle.std.proofs.Math.Option.{Option, some, none}
+use mathlib.Core.List.{List, [], ◌∷◌}
 use Rattle.std.proofs.Math.ListN.{length, take}
 use Rattle.std.proofs.Math.Seq.{take_at}
 use borrow.Author.Tests.{lt-ltb, le-ltb}
@@ -22,11 +21,11 @@ use Rattle.plan.specs.declared.plan.Written.TheVariants.{Bytes, NotWritten}
 use Rattle.plan.specs.declared.refusal.Outcome.{Outcome}
 use Rattle.plan.specs.declared.refusal.Outcome.TheVariants.{Done, Refused}
 use Rattle.plan.specs.declared.refusal.Refusal.{Refusal}
-use Rattle.plan.specs.declared.refusal.Refusal.TheVariants.{BadNumber, NotPlaced, ShortBuffer}
-use Rattle.plan.specs.rules.Refusal.{number_of, first_refusal, number_by, Result, accepted, refused, unless, after, after_tests}
+use Rattle.plan.specs.declared.refusal.Refusal.TheVariants.{BadNumber, NoSites, NotPlaced, ShortBuffer, ShortTable, NoGoodChoice}
+use Rattle.plan.specs.rules.Refusal.{number_of, ◌gives◌, first_refusal, number_by, Result, accepted, refused, unless, after, after_tests}
 use Rattle.plan.specs.rules.List.{Site, places_of}
 use Rattle.plan.specs.rules.Sheet.{sheet_with, refusal_line}
-use Rattle.plan.specs.rules.Calls.{no_good, count_tests, Takes, write_tests, filled_with, bytes_after, to_place, to_place_at}
+use Rattle.plan.specs.rules.Calls.{no_sites, no_good, choosing_tests, write_tests, filled_with, bytes_after, to_place, to_place_at}
 use Rattle.plan.specs.deciding.Output.{sheet_of, sheet_at, output_for, output_of, exists_at, output_at}
 use Rattle.plan.specs.deciding.Reading.{read_list}
 use Rattle.plan.specs.calls.Lengths.{full_table, longest_sheet}
@@ -50,12 +49,11 @@ use Rattle.plan.specs.calls.Answers.{
   list_placed_at,
 }
 use Rattle.plan.specs.Demands.{WriteTold, PlacedSheet, SheetWritten}
-use Rattle.plan.specs.theorems.Tables.{passes-takes}
 use Rattle.plan.specs.theorems.Reading.{reads-are, read-listed}
-use Rattle.plan.specs.theorems.Sheet.{answer-listed, sheet-longest}
+use Rattle.plan.specs.theorems.Sheet.{answer-listed, sheet-longest, some-to-place}
 use Rattle.plan.specs.theorems.Plan.{sites-unplaced, sites-placed, Holding, holding-unplaced, valid-holding, valid-for}
 use Rattle.plan.specs.theorems.Calls.{write-told}
-use Rattle.plan.specs.theorems.Choosing.{found-listed, chosen-listed, placed_by}
+use Rattle.plan.specs.theorems.Choosing.{chosen-listed, found-done, placed_by}
 use Rattle.plan.specs.theorems.Output.{sheet-placed, ToPlace, not_placed, to_be_placed, text-to-place}
 use Rattle.plan.specs.code.Put.{Put}
 use Rattle.plan.specs.code.PutLaws.{put_same, put_front, put-taken}
@@ -63,11 +61,11 @@ use Rattle.plan.specs.code.CallLaws.{refusal-of}
 
 -- ---- writing
 
--- A placed plan has as many sites as its way takes.
-placed-takes : {plan : Plan} → Valid plan → plan.placed ≡ true → Takes plan.way (length (sites_in plan))
-unfolding unplaced_plan placed_with
-placed-takes (is_unplaced sites listed) is = absurd (false≢true is)
-placed-takes (is_placed sites way answer listed takes chosen) is = rw (sites-placed sites way answer) takes
+-- A placed plan has some sites.
+placed-some : {plan : Plan} → Valid plan → plan.placed ≡ true → 1 ≤ length (sites_in plan)
+unfolding unplaced_plan
+placed-some (is_unplaced sites listed) is = absurd (false≢true is)
+placed-some (is_placed sites way answer listed nonempty chosen) is = rw (sites-placed sites way answer) nonempty
 
 -- Its sheet is no longer than the longest.
 pub placed-longest : {plan : Plan} → Valid plan → plan.placed ≡ true → length (sheet_for plan) ≤ longest_sheet
@@ -118,7 +116,7 @@ module _ {plan : Plan} (valid : Valid plan) (is : plan.placed ≡ true) {buffer 
       let taken : take n after ≡ sheet = ap (take n) front ∙ take_at sheet (drop (length sheet) buffer) n size in
       promised plan buffer (accepted n) (rw (is, le-ltb (length buffer) (length sheet) (omega arith)) (ap accepted size)) front
       (subst (PlacedSheet plan.way (sites_in plan) plan.side) (sym taken)
-      (sheet-placed (sites_in plan) (valid-holding valid).listed (placed-takes valid is) (valid-for valid is)))
+      (sheet-placed (sites_in plan) (valid-holding valid).listed (placed-some valid is) (valid-for valid is)))
 
 -- ---- the output
 
@@ -171,7 +169,7 @@ pub reading-refused : (way : Way) (text : List ℕ) {listed : Planned} {why : Re
 reading-refused way text {listed} {why} listed-is is = listed-is ∙ by-sites (read_list text) (ap outcome_of (sym listed-is) ∙ is)
   where
     by-sites : (sites : Result (List Site)) → (handed unplaced_plan started sites).outcome ≡ Refused why
-        → handed unplaced_plan started sites ≡ handed (placed_plan way) started (to_place way sites)
+        → handed unplaced_plan started sites ≡ handed (placed_plan way) started (to_place sites)
     by-sites (accepted sites) is = let z : ◌≡◌ {A = ℕ} 0 1 = cc in absurd (omega arith)
     by-sites (refused other) is = refl
 
@@ -181,23 +179,23 @@ enough : {sites : List Site} (text table : List ℕ) → length table ≡ full_t
 enough {sites} text table size read = let few = (read-listed text sites read).few in omega (arith, mul-le-mul few few)
 
 module _ (way : Way) (text table : List ℕ) (size : length table ≡ full_table) where
-  -- Where no side is found, the list has no sites or too many;
+  -- Where no side is found, the list has no sites;
   pub reading-unfound : {listed : Planned} {why : Refusal} → listed ≡ read_from text → listed.outcome ≡ Done
-      → NoSide why ≡ found_in listed.plan way table → refusal-of started why ≡ list_placed way text
+      → NoSide why ≡ found_in listed.plan way table → refusal-of listed.plan why ≡ list_placed way text
+  unfolding unplaced_plan
   reading-unfound {listed} {why} listed-is is_read found =
-      by-sites (read_list text) refl (ap outcome_of (sym listed-is) ∙ is_read) (found ∙ ap (λ (p : Planned). found_in p.plan way table) listed-is)
+      subst (λ (p : Planned). NoSide why ≡ found_in p.plan way table → refusal-of p.plan why ≡ list_placed way text) (sym listed-is)
+      (by-sites (read_list text) refl (ap outcome_of (sym listed-is) ∙ is_read)) found
     where
-      by_first : (sites : List Site) (first : Option Refusal) → NoSide why ≡ side_answer (unless first (answer_of way (places_of sites)).side)
-          → refusal-of started why ≡ handed (placed_plan way) started (unless first sites)
-      by_first sites none found = let z : ◌≡◌ {A = ℕ} 0 1 = cc in absurd (omega arith)
-      by_first sites (some other) found = let same : why ≡ other = cc in ap (refusal-of started) same
-
       by-sites : (sites : Result (List Site)) → read_list text ≡ sites → (handed unplaced_plan started sites).outcome ≡ Done
           → NoSide why ≡ found_in (handed unplaced_plan started sites).plan way table
-          → refusal-of started why ≡ handed (placed_plan way) started (to_place way sites)
+          → refusal-of (handed unplaced_plan started sites).plan why ≡ handed (placed_plan way) started (to_place sites)
       by-sites (refused other) read is_read found = let z : ◌≡◌ {A = ℕ} 0 1 = cc in absurd (omega arith)
-      by-sites (accepted sites) read is_read found =
-          by_first sites (first_refusal (count_tests way (length sites))) (found ∙ found-listed way sites table (enough text table size read))
+      by-sites (accepted []) read is_read found = let same : why ≡ NoSites = cc in ap (refusal-of started) same
+      by-sites (accepted (site ∷ sites)) read is_read found =
+          let z = found ∙ ap side_answer (found-done (unplaced_plan (site ∷ sites)) table (λ zero. omega arith) (enough text table size read) way) in
+          let none : ◌≡◌ {A = ℕ} 0 1 = cc in
+          absurd (omega arith)
 
   -- else it is placed at the side found.
   pub reading-placed : {listed done : Planned} {side : Side} (again : List ℕ) → length again ≡ full_table → listed ≡ read_from text
@@ -206,33 +204,31 @@ module _ (way : Way) (text table : List ℕ) (size : length table ≡ full_table
   unfolding unplaced_plan
   reading-placed {listed} {done} {side} again size-again listed-is is_read found done-is =
       done-is
-      ∙ ap (λ (p : Planned). chosen_in p.plan way side again) listed-is
-      ∙ by-sites (read_list text) refl (ap outcome_of (sym listed-is) ∙ is_read) (found ∙ ap (λ (p : Planned). found_in p.plan way table) listed-is)
+      ∙ subst (λ (p : Planned). SideIs side ≡ found_in p.plan way table → chosen_in p.plan way side again ≡ list_placed way text) (sym listed-is)
+      (by-sites (read_list text) refl (ap outcome_of (sym listed-is) ∙ is_read)) found
     where
-      by_first : (sites : List Site) → read_list text ≡ accepted sites → (first : Option Refusal)
-          → first_refusal (count_tests way (length sites)) ≡ first → SideIs side ≡ side_answer (unless first (answer_of way (places_of sites)).side)
-          → chosen_in (unplaced_plan sites) way side again ≡ handed (placed_plan way) started (unless first sites)
-      by_first sites read (some other) is found = let z : ◌≡◌ {A = ℕ} 0 1 = cc in absurd (omega arith)
-      by_first sites read none is found =
-          let listed = read-listed text sites read in
-          let same : side ≡ (answer_of way (places_of sites)).side = cc in
-          ap (λ (s : Side). chosen_in (unplaced_plan sites) way s again) same
-          ∙ placed_by (answer_of way (places_of sites)) again (holding-unplaced listed) (sites-unplaced sites) (passes-takes way (length sites) is)
-          (enough text again size-again read) (answer-listed way sites listed)
-
       by-sites : (sites : Result (List Site)) → read_list text ≡ sites → (handed unplaced_plan started sites).outcome ≡ Done
           → SideIs side ≡ found_in (handed unplaced_plan started sites).plan way table
-          → chosen_in (handed unplaced_plan started sites).plan way side again ≡ handed (placed_plan way) started (to_place way sites)
+          → chosen_in (handed unplaced_plan started sites).plan way side again ≡ handed (placed_plan way) started (to_place sites)
       by-sites (refused other) read is_read found = let z : ◌≡◌ {A = ℕ} 0 1 = cc in absurd (omega arith)
-      by-sites (accepted sites) read is_read found =
-          by_first sites read (first_refusal (count_tests way (length sites))) refl (found ∙ found-listed way sites table (enough text table size read))
+      by-sites (accepted []) read is_read found = let z : ◌≡◌ {A = ℕ} 0 1 = cc in absurd (omega arith)
+      by-sites (accepted (site ∷ sites)) read is_read found =
+          let listed = read-listed text (site ∷ sites) read in
+          let plan = unplaced_plan (site ∷ sites) in
+          let room = enough text table size read in
+          let is = found ∙ ap side_answer (found-done plan table (λ zero. omega arith) room way) in
+          let same : side ≡ (answer_of way (places_of (sites_in plan))).side = cc in
+          ap (λ (s : Side). chosen_in plan way s again) (same ∙ ap (λ (l : List Site). (answer_of way (places_of l)).side) (sites-unplaced (site ∷ sites)))
+          ∙ placed_by (answer_of way (places_of (site ∷ sites))) again (holding-unplaced listed) (sites-unplaced (site ∷ sites)) (omega arith)
+          (omega arith) (answer-listed way (site ∷ sites) listed)
+          ∙ sym (ap (handed (placed_plan way) started) (some-to-place (site ∷ sites) (omega arith)))
 
 -- What is written of it is the output for the text.
 pub placed-output : (way : Way) (text : List ℕ) {done : Planned} → done ≡ list_placed way text → planned_output done ≡ output_of way text
 unfolding output_of sheet_of sheet_at placed_with
-placed-output way text {done} done-is = ap planned_output done-is ∙ by-sites (text-to-place way text)
+placed-output way text {done} done-is = ap planned_output done-is ∙ by-sites (text-to-place text)
   where
-    by-sites : {sites : Result (List Site)} → ToPlace way text sites
+    by-sites : {sites : Result (List Site)} → ToPlace text sites
         → planned_output (handed (placed_plan way) started sites) ≡ output_for (sheet_of way) sites
     by-sites (not_placed reason) = refl
     by-sites (to_be_placed {sites} accepts) =
@@ -256,7 +252,7 @@ module _ (way : Way) (side : Side) (given : is_side side ≡ true) (text : List 
       by-sites : (sites : Result (List Site)) → (handed unplaced_plan started sites).outcome ≡ Refused why
           → handed unplaced_plan started sites
           ≡ handed (placed_at way side) started
-          (after sites (λ l. after_tests (count_tests way (length l) ++ (no_good (exists_at way side l) ∷ [])) l))
+          (after sites (λ l. after_tests (no_sites (length l) ∷ no_good (exists_at way side l) ∷ []) l))
       by-sites (accepted sites) is = let z : ◌≡◌ {A = ℕ} 0 1 = cc in absurd (omega arith)
       by-sites (refused other) is = refl
 
@@ -264,7 +260,7 @@ module _ (way : Way) (side : Side) (given : is_side side ≡ true) (text : List 
   module _ {listed chosen : Planned} (table : List ℕ) (size : length table ≡ full_table) (listed-is : listed ≡ read_from text)
       (is_read : listed.outcome ≡ Done) (chosen_is : chosen ≡ chosen_in listed.plan way side table) where
     abbrev comes : Result (List Site)
-    comes = after (read_list text) (λ l. after_tests (count_tests way (length l) ++ (no_good (exists_at way side l) ∷ [])) l)
+    comes = after (read_list text) (λ l. after_tests (no_sites (length l) ∷ no_good (exists_at way side l) ∷ []) l)
 
     chosen-comes : chosen ≡ handed (placed_at way side) (read_from text).plan comes
     chosen-comes =
@@ -275,16 +271,18 @@ module _ (way : Way) (side : Side) (given : is_side side ≡ true) (text : List 
         by-sites : (sites : Result (List Site)) → read_list text ≡ sites → (handed unplaced_plan started sites).outcome ≡ Done
             → chosen_in (handed unplaced_plan started sites).plan way side table
             ≡ handed (placed_at way side) (handed unplaced_plan started sites).plan
-            (after sites (λ l. after_tests (count_tests way (length l) ++ (no_good (exists_at way side l) ∷ [])) l))
+            (after sites (λ l. after_tests (no_sites (length l) ∷ no_good (exists_at way side l) ∷ []) l))
         by-sites (refused other) read is_read = let z : ◌≡◌ {A = ℕ} 0 1 = cc in absurd (omega arith)
         by-sites (accepted sites) read is_read =
-            chosen-listed way side sites table (enough text table size read) ∙ rw given (by_first (first_refusal (count_tests way (length sites) ++ (no_good (exists_at way side sites) ∷ []))))
+            chosen-listed way side sites table (enough text table size read) ∙ rw given (by_tests (eqb (length sites) 0) (not (exists_at way side sites)))
           where
-            by_first : (first : Option Refusal)
-                → handed (placed_with sites way) (unplaced_plan sites) (unless first (chosen_at way side (places_of sites)))
-                ≡ handed (placed_at way side) (unplaced_plan sites) (unless first sites)
-            by_first (some why) = refl
-            by_first none = refl
+            by_tests : (b d : Bool)
+                → handed (placed_with sites way) (unplaced_plan sites)
+                (unless (first_refusal (b gives NoSites ∷ d gives NoGoodChoice ∷ [])) (chosen_at way side (places_of sites)))
+                ≡ handed (placed_at way side) (unplaced_plan sites) (unless (first_refusal (b gives NoSites ∷ d gives NoGoodChoice ∷ [])) sites)
+            by_tests true d = refl
+            by_tests false true = refl
+            by_tests false false = refl
 
     pub choosing-done : chosen.outcome ≡ Done → chosen ≡ list_placed_at way side text
     choosing-done done = rw given (chosen-comes ∙ go comes (ap outcome_of (sym chosen-comes) ∙ done))
@@ -307,7 +305,7 @@ module _ (way : Way) (side : Side) (given : is_side side ≡ true) (text : List 
 pub placed-output-at : (way : Way) (side : Side) (text : List ℕ) {done : Planned} → done ≡ list_placed_at way side text
     → planned_output done ≡ output_at way side text
 unfolding output_at sheet_at placed_with chosen_at
-placed-output-at way side text {done} done-is = ap planned_output done-is ∙ by-sites (to_place_at way side (exists_at way side) (read_list text))
+placed-output-at way side text {done} done-is = ap planned_output done-is ∙ by-sites (to_place_at side (exists_at way side) (read_list text))
   where
     by-sites : (sites : Result (List Site)) → planned_output (handed (placed_at way side) started sites) ≡ output_for (sheet_at way side) sites
     by-sites (refused why) = refl

@@ -6,6 +6,7 @@ use Rattle.std.proofs.lemmas.List.{map-append, length-map, set_at}
 use Rattle.std.proofs.Math.Option.{none}
 use Rattle.std.proofs.Math.ListN.{get_or-append, get_or-map}
 use Rattle.std.proofs.Math.Seq.{take-append_seam}
+use Rattle.std.proofs.lemmas.Bool.{eqb-false}
 use Rattle.placing.specs.declared.choice.Choice.{Choice}
 use Rattle.placing.specs.declared.units.Place.{Place}
 use Rattle.placing.specs.declared.units.Side.{Side}
@@ -23,7 +24,7 @@ use Rattle.plan.specs.rules.Calls.{finding_tests}
 use Rattle.plan.specs.rules.List.{Site, no_site, place_of, places_of, name_taken, place_taken}
 use Rattle.plan.specs.calls.Plan.{name_of, name_held, name_record, names_held, places_held, unplaced_plan, placed_with, Valid, is_unplaced}
 use Rattle.plan.specs.deciding.Output.{exists_at}
-use Rattle.plan.specs.theorems.Tables.{rows_none, ready-takes}
+use Rattle.plan.specs.theorems.Tables.{rows_none}
 use Rattle.plan.specs.theorems.Sites.{listed-none, listed-in-range}
 use Rattle.plan.specs.theorems.Plan.{Holding}
 use Rattle.plan.specs.code.NameRead.{Padded}
@@ -134,15 +135,16 @@ module _ {plan : Plan} {sites : List Site} (holding : Holding plan sites) (way :
   pub holding-exists : choice.exists ≡ exists_at way side sites
   holding-exists = ap (λ (c : Choice). c.exists) choice-held
 
--- Where no test of finding holds, the places may be placed: there are some sites, and the table has room.
-pub holding-ready : {plan : Plan} {sites : List Site} → Holding plan sites → (way : Way) (table : List ℕ)
-    → first_refusal (finding_tests way plan.count (length table)) ≡ none → MayPlace plan.count plan.places table
-holding-ready {plan} {sites} holding way table ready =
-    let none_holds = (rows_none (finding_tests way plan.count (length table)) ready).none_holds in
+-- Its places may be placed, where no test of finding holds: there are some sites, and the table has room.
+pub holding-ready : {plan : Plan} {sites : List Site} → Holding plan sites → (table : List ℕ)
+    → first_refusal (finding_tests plan.count (length table)) ≡ none → MayPlace plan.count plan.places table
+holding-ready {plan} {sites} holding table ready =
+    let none_holds = (rows_none (finding_tests plan.count (length table)) ready).none_holds in
+    let some_sites = eqb-false plan.count 0 (none_holds 0 (omega arith)) in
     record {
-      some_sites = (ready-takes way plan.count (length table) ready).some_sites;
+      some_sites = omega arith;
       few = omega (arith, holding.count, holding.listed.few);
       distinct = rw (holding-places holding) holding.listed.places_distinct;
       in_range = rw (holding-places holding) (listed-in-range holding.listed);
-      room = ltb-false (length table) (plan.count * plan.count) (none_holds 2 (omega arith));
+      room = ltb-false (length table) (plan.count * plan.count) (none_holds 1 (omega arith));
     }

@@ -26,7 +26,7 @@ output_for sheet-of (refused why) = refusal_line (number_of why)
 
 -- The output for a text.
 unfoldable pub output_of : Way → List ℕ → List ℕ
-output_of way text = output_for (sheet_of way) (to_place way (read_list text))
+output_of way text = output_for (sheet_of way) (to_place (read_list text))
 
 -- A good choice exists for some sites at a side.
 abbrev pub exists_at : Way → Side → List Site → Bool
@@ -34,4 +34,4 @@ exists_at way side sites = is_some (first_good way (judged_at side) (places_of s
 
 -- The output for a text at a given side.
 unfoldable pub output_at : Way → Side → List ℕ → List ℕ
-output_at way side text = output_for (sheet_at way side) (to_place_at way side (exists_at way side) (read_list text))
+output_at way side text = output_for (sheet_at way side) (to_place_at side (exists_at way side) (read_list text))

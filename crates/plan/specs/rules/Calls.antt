@@ -1,16 +1,13 @@
 -- Document 01, "Calls on a plan", with placing as document 02, L1, has split it: the tables of finding, choosing, asking and writing, the
--- value where a call is accepted, and the lent bytes afterwards. L2 and L5 add a second and a third way of placing "with the table and
--- refusals of L1", the third with 13. Entering and reading stand in `List`; what start and count hand back, and which plans the calls hand
--- back, in `calls/`.
+-- value where a call is accepted, and the lent bytes afterwards. L2 adds a second way of placing "with the table and refusals of L1": they
+-- are the same by both. Entering and reading stand in `List`; what start and count hand back, and which plans the calls hand back, in
+-- `calls/`.
 -- Assumes nothing.
-use Rattle.std.specs.Prelude.{◌≡◌, Bool, false, not, List, [], ◌∷◌, ◌++◌, ℕ, ◌*◌, ◌≤◌, leb, ltb, eqb, length, drop, replicate}
+use Rattle.std.specs.Prelude.{Bool, not, List, [], ◌∷◌, ◌++◌, ℕ, ◌*◌, leb, ltb, eqb, length, drop, replicate}
 use Rattle.placing.specs.declared.units.Side.{Side}
-use Rattle.placing.specs.declared.way.Way.{Way}
-use Rattle.placing.specs.declared.way.Way.TheVariants.{Usual, Above, Small}
-use Rattle.placing.specs.rules.Units.{most_small_sites}
 use Rattle.placing.specs.rules.Choice.{corner_at}
 use Rattle.placing.specs.rules.Answer.{Answer, is_side}
-use Rattle.plan.specs.declared.refusal.Refusal.TheVariants.{BadNumber, NoSuchSite, NoSites, NotPlaced, ShortBuffer, ShortTable, NoGoodChoice, TooManySites}
+use Rattle.plan.specs.declared.refusal.Refusal.TheVariants.{BadNumber, NoSuchSite, NoSites, NotPlaced, ShortBuffer, ShortTable, NoGoodChoice}
 use Rattle.plan.specs.rules.Refusal.{Test, ◌gives◌, Result, accepted, refused, after, after_tests}
 use Rattle.plan.specs.rules.List.{Site}
 
@@ -22,15 +19,6 @@ outside side = not (is_side side) gives BadNumber
 abbrev pub no_sites : ℕ → Test
 no_sites n = eqb n 0 gives NoSites
 
--- L5: "13 where the plan has more than ten sites". The other ways take as many as a plan holds.
-abbrev pub too_many_test : Way → ℕ → Bool
-too_many_test Usual n = false
-too_many_test Above n = false
-too_many_test Small n = ltb most_small_sites n
-
-abbrev pub many_sites : Way → ℕ → Test
-many_sites way n = too_many_test way n gives TooManySites
-
 -- "The work table is shorter than n × n": it has so many bytes.
 abbrev pub short_table : (n bytes : ℕ) → Test
 short_table n bytes = ltb bytes (n * n) gives ShortTable
@@ -39,41 +27,32 @@ short_table n bytes = ltb bytes (n * n) gives ShortTable
 abbrev pub no_good : Bool → Test
 no_good exists = not exists gives NoGoodChoice
 
--- What is tested of the count: 8 and, "tested after 8", 13.
-abbrev pub count_tests : Way → ℕ → List Test
-count_tests way n = no_sites n ∷ many_sites way n ∷ []
+-- "Placing tests 8, 11": so does finding the side.
+abbrev pub finding_tests : (n bytes : ℕ) → List Test
+finding_tests n bytes = no_sites n ∷ short_table n bytes ∷ []
 
--- So many sites can be placed by a way: neither holds of them.
-pub record Takes (way : Way) (n : ℕ) : Type 0 where
-  pub some_sites : 1 ≤ n
-  pub few_enough : too_many_test way n ≡ false
-
--- "Placing tests 8, 11": so does finding the side, with 13 between them.
-abbrev pub finding_tests : Way → (n bytes : ℕ) → List Test
-finding_tests way n bytes = count_tests way n ++ (short_table n bytes ∷ [])
-
--- L1, choosing at a given side: 3 is "tested first", then as in finding,
-abbrev pub before_choice : Way → Side → (n bytes : ℕ) → List Test
-before_choice way side n bytes = outside side ∷ finding_tests way n bytes
+-- L1, choosing at a given side: 3 is "tested first", then 8 and 11,
+abbrev pub before_choice : Side → (n bytes : ℕ) → List Test
+before_choice side n bytes = outside side ∷ finding_tests n bytes
 
 -- and 12 is "tested after 11".
-abbrev pub choosing_tests : Way → Side → (n bytes : ℕ) → (exists : Bool) → List Test
-choosing_tests way side n bytes exists = before_choice way side n bytes ++ (no_good exists ∷ [])
+abbrev pub choosing_tests : Side → (n bytes : ℕ) → (exists : Bool) → List Test
+choosing_tests side n bytes exists = before_choice side n bytes ++ (no_good exists ∷ [])
 
 -- "After placing, its first n × n bytes are zero and the others are untouched." L1: "Both calls leave the work table as placing did, and
 -- 12, unlike other refusals, does so too": so it is after choosing unless a test of `before_choice` holds.
 abbrev pub cleared : ℕ → List ℕ → List ℕ
 cleared n table = replicate (n * n) 0 ++ drop (n * n) table
 
--- The program finds the side of the list that it reads: after the list's own refusals, 8 and 13. Its table is long enough.
-abbrev pub to_place : Way → Result (List Site) → Result (List Site)
-to_place way read = after read (λ sites. after_tests (count_tests way (length sites)) sites)
+-- The program finds the side of the list that it reads: 8 where it has no sites.
+abbrev pub to_place : Result (List Site) → Result (List Site)
+to_place read = after read (λ sites. after_tests (no_sites (length sites) ∷ []) sites)
 
--- At a given side it tests 3 before the list's own refusals, and 12 last.
-abbrev pub to_place_at : Way → Side → (List Site → Bool) → Result (List Site) → Result (List Site)
-to_place_at way side exists read =
+-- At a given side it tests 3 before the list's own refusals, and 12 after 8.
+abbrev pub to_place_at : Side → (List Site → Bool) → Result (List Site) → Result (List Site)
+to_place_at side exists read =
     after (after_tests (outside side ∷ []) read)
-    (λ listed. after listed (λ sites. after_tests (count_tests way (length sites) ++ (no_good (exists sites) ∷ [])) sites))
+    (λ listed. after listed (λ sites. after_tests (no_sites (length sites) ∷ no_good (exists sites) ∷ []) sites))
 
 -- "Asking side or corner, or writing, while unplaced": 9.
 abbrev pub side_tests : Bool → List Test

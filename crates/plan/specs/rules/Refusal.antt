@@ -1,10 +1,10 @@
--- Document 01, "Refused because of the input" and "Refused because of the state", with document 02's numbers 12 and 13: the numbers, and
--- how a table of tests decides.
+-- Document 01, "Refused because of the input" and "Refused because of the state", with document 02's number 12: the numbers, and how a
+-- table of tests decides.
 -- Assumes nothing.
 use Rattle.std.specs.Prelude.{Bool, true, false, List, [], ◌∷◌, ℕ}
 use Rattle.std.proofs.Math.Option.{Option, some, none}
 use Rattle.plan.specs.declared.refusal.Refusal.{Refusal}
-use Rattle.plan.specs.declared.refusal.Refusal.TheVariants.{BadLine, BadName, BadNumber, NameTaken, PlaceTaken, NoSuchSite, Full, NoSites, NotPlaced, ShortBuffer, ShortTable, NoGoodChoice, TooManySites}
+use Rattle.plan.specs.declared.refusal.Refusal.TheVariants.{BadLine, BadName, BadNumber, NameTaken, PlaceTaken, NoSuchSite, Full, NoSites, NotPlaced, ShortBuffer, ShortTable, NoGoodChoice}
 
 -- The number of each refusal.
 abbrev pub number_of : Refusal → ℕ
@@ -33,8 +33,6 @@ number_of ShortBuffer = 10
 number_of ShortTable = 11
 -- of document 02: no good choice exists at the given side
 number_of NoGoodChoice = 12
--- of document 02: the plan has more than ten sites, where the best side for a small level is wanted
-number_of TooManySites = 13
 
 -- A row of a call's table: a test, and the refusal that is given where it holds.
 pub record Test : Type 0 where

@@ -11,7 +11,7 @@ use Rattle.placing.specs.rules.Choice.{corner_at}
 use Rattle.placing.specs.rules.Answer.{is_side, side_number}
 use Rattle.placing.specs.deciding.Answer.{answer_of, chosen_at}
 use Rattle.plan.specs.declared.refusal.Refusal.{Refusal}
-use Rattle.plan.specs.declared.refusal.Refusal.TheVariants.{BadNumber, NoSites, ShortTable, NoGoodChoice, TooManySites}
+use Rattle.plan.specs.declared.refusal.Refusal.TheVariants.{BadNumber, NoSites, ShortTable, NoGoodChoice}
 use Rattle.plan.specs.declared.plan.Plan.{Plan}
 use Rattle.plan.specs.declared.plan.Planned.{Planned}
 use Rattle.plan.specs.declared.plan.AskedSide.{AskedSide}
@@ -24,7 +24,7 @@ use Rattle.plan.specs.rules.Refusal.{number_of, ◌gives◌, first_refusal, refu
 use Rattle.plan.specs.rules.Text.{decimal, number_in}
 use Rattle.plan.specs.rules.List.{Site, places_of, enter_tests, wanted_at}
 use Rattle.plan.specs.deciding.Output.{exists_at}
-use Rattle.plan.specs.rules.Calls.{too_many_test, finding_tests, cleared, side_tests, corner_tests, write_tests, filled_with, bytes_after}
+use Rattle.plan.specs.rules.Calls.{finding_tests, cleared, side_tests, corner_tests, write_tests, filled_with, bytes_after}
 use Rattle.plan.specs.calls.Plan.{unplaced_plan, placed_with, sites_in, Valid}
 use Rattle.plan.specs.calls.Answers.{
   outcome_number,
@@ -72,14 +72,14 @@ enter-told plan name x y both =
     by_first none more = record { number_is = refl; as_it_came = λ given. absurd (given refl) }
     by_first (some why) more = record { number_is = refl; as_it_came = λ given. refl }
 
--- Finding gives 8, 13, 11, or the side; refused, it leaves the table as it came.
+-- Finding gives 8, 11, or the side; refused, it leaves the table as it came.
 pub find-told : {r : AskedSide} {after : List ℕ} (plan : Plan) (way : Way) (table : List ℕ) → r ≡ found_in plan way table
-    → after ≡ table_found plan way table
-    → FindTold plan way table r after
+    → after ≡ table_found plan table
+    → FindTold plan table r after
     × (side_carried r
-    ≡ carried_at (number_by (finding_tests way plan.count (length table))) (side_number (answer_of way (places_of (sites_in plan))).side))
+    ≡ carried_at (number_by (finding_tests plan.count (length table))) (side_number (answer_of way (places_of (sites_in plan))).side))
 find-told plan way table is left =
-    rw (is, left) (by_first (first_refusal (finding_tests way plan.count (length table))) (answer_of way (places_of (sites_in plan))).side)
+    rw (is, left) (by_first (first_refusal (finding_tests plan.count (length table))) (answer_of way (places_of (sites_in plan))).side)
   where
     by_first : (first : Option Refusal) (side : Side)
         → Refuses (side_asked_number (side_answer (unless first side))) (refusal_number first) table
@@ -88,13 +88,12 @@ find-told plan way table is left =
     by_first none side = (record { number_is = refl; as_it_came = λ given. absurd (given refl) }, refl)
     by_first (some why) side = (record { number_is = refl; as_it_came = λ given. refl }, sym (none-carried why (side_number side)))
 
--- Choosing gives 3, 8, 13, 11, 12, or the placed plan. The tests before 12 come first: where one of them holds, the table is as it came.
+-- Choosing gives 3, 8, 11, 12, or the placed plan. The tests before 12 come first: where one of them holds, the table is as it came.
 pub choose-told : {r : Planned} {after : List ℕ} (plan : Plan) (way : Way) (side : Side) (table : List ℕ) → r ≡ chosen_in plan way side table
-    → after ≡ table_chosen plan way side table → ChooseTold plan way side table r after
+    → after ≡ table_chosen plan side table → ChooseTold plan way side table r after
 choose-told plan way side table is left =
     let told =
-    by_tests (not (is_side side)) (eqb plan.count 0) (too_many_test way plan.count) (ltb (length table) (plan.count * plan.count))
-    (not (exists_at way side (sites_in plan))) in
+    by_tests (not (is_side side)) (eqb plan.count 0) (ltb (length table) (plan.count * plan.count)) (not (exists_at way side (sites_in plan))) in
     rw (is, left) (record { number_is = told.0; plan_kept = told.1; table_kept = told.2; table_cleared = told.3 })
   where
     came : Option Refusal → Planned
@@ -119,15 +118,14 @@ choose-told plan way side table is left =
       ⊎_elim (λ zero. absurd (omega (arith, number-some why, zero))) (λ twelve. absurd (other twelve)),
     )
 
-    by_tests : (a b m c d : Bool)
-        → Told (first_refusal (a gives BadNumber ∷ b gives NoSites ∷ m gives TooManySites ∷ c gives ShortTable ∷ d gives NoGoodChoice ∷ []))
-        (first_refusal (a gives BadNumber ∷ b gives NoSites ∷ m gives TooManySites ∷ c gives ShortTable ∷ []))
-    by_tests true b m c d = early-told BadNumber (λ e. omega arith)
-    by_tests false true m c d = early-told NoSites (λ e. omega arith)
-    by_tests false false true c d = early-told TooManySites (λ e. omega arith)
-    by_tests false false false true d = early-told ShortTable (λ e. omega arith)
-    by_tests false false false false true = (refl, λ given. refl, λ given others. absurd (others refl), λ either. refl)
-    by_tests false false false false false = (refl, λ given. absurd (given refl), λ given. absurd (given refl), λ either. refl)
+    by_tests : (a b c d : Bool)
+        → Told (first_refusal (a gives BadNumber ∷ b gives NoSites ∷ c gives ShortTable ∷ d gives NoGoodChoice ∷ []))
+        (first_refusal (a gives BadNumber ∷ b gives NoSites ∷ c gives ShortTable ∷ []))
+    by_tests true b c d = early-told BadNumber (λ e. omega arith)
+    by_tests false true c d = early-told NoSites (λ e. omega arith)
+    by_tests false false true d = early-told ShortTable (λ e. omega arith)
+    by_tests false false false true = (refl, λ given. refl, λ given others. absurd (others refl), λ either. refl)
+    by_tests false false false false = (refl, λ given. absurd (given refl), λ given. absurd (given refl), λ either. refl)
 
 -- Asking the side gives 9, or the side.
 pub side-told : {r : AskedSide} (plan : Plan) → r ≡ side_asked plan

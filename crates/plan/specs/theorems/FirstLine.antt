@@ -2,10 +2,9 @@
 -- that is accepted has none; and reading stops there.
 -- Assumes nothing.
 use Rattle.std.specs.Prelude.{◌≡◌, refl, true, List, [], ◌∷◌, ◌++◌, ℕ, suc, ◌<◌, length}
-use Rattle.std.proofs.Common.{sym, ap, ◌∙◌, true≢false, append_assoc, append-nil, arith, length-append, length-drop}
+use Rattle.std.proofs.Common.{sym, ap, ◌∙◌, append_assoc, append-nil, arith, length-append, length-drop}
 use Rattle.std.proofs.Math.Option.{Option, some, none}
 use Rattle.std.proofs.Math.Seq.{append_snoc}
-use Rattle.placing.specs.declared.way.Way.{Way}
 use Rattle.plan.specs.declared.list.RefusedLine.{RefusedLine}
 use Rattle.plan.specs.declared.list.Stop.TheVariants.{AtLine, Nowhere}
 use Rattle.plan.specs.declared.refusal.Refusal.{Refusal}
@@ -13,13 +12,12 @@ use Rattle.plan.specs.rules.Refusal.{number_of, first_refusal, refusal_number, R
 use Rattle.plan.specs.rules.Text.{line_feed}
 use Rattle.plan.specs.rules.List.{Site, ByRules, Listed, list_line, list_text, line_tests, line_entered}
 use Rattle.plan.specs.rules.List.{TextLine, FirstLine, with_feed, Reads, end, refused_line, accepted_line}
-use Rattle.plan.specs.rules.Calls.{too_many_test}
 use Rattle.plan.specs.deciding.Reading.{cut_line, read_list}
-use Rattle.plan.specs.Demands.{FirstRefused, StopsAt, StopTold, at_a_line, at_no_line, Accepts, ListRefused, at_line, of_no_sites, too_many}
+use Rattle.plan.specs.Demands.{FirstRefused, StopsAt, StopTold, at_a_line, at_no_line, Accepts, ListRefused, at_line, of_no_sites}
 use Rattle.plan.specs.theorems.Tables.{refused-not-accepted}
 use Rattle.plan.specs.theorems.Sites.{listed-site}
 use Rattle.plan.specs.theorems.Entering.{listed-passed}
-use Rattle.plan.specs.theorems.Reading.{first-line-cut, rest-shorter, reads-list, reads-are, reads-unique, lines-read, read-listed, line-without, line-passes}
+use Rattle.plan.specs.theorems.Reading.{first-line-cut, rest-shorter, reads-list, reads-are, lines-read, read-listed, line-without, line-passes}
 
 -- ---- its number
 
@@ -47,16 +45,12 @@ pub refused-not-read : {text : List ℕ} {n : ℕ} {sites : List Site} → First
 refused-not-read f read = refused-not-accepted (sym (refused-read f) ∙ read)
 
 -- What is refused is not accepted.
-pub refused-list-not-accepted : {way : Way} {text : List ℕ} {n : ℕ} {sites : List Site} → ListRefused way text n → Accepts way text sites → ⊥
+pub refused-list-not-accepted : {text : List ℕ} {n : ℕ} {sites : List Site} → ListRefused text n → Accepts text sites → ⊥
 refused-list-not-accepted (at_line first) accepts = refused-not-read first (reads-are accepts.read)
 refused-list-not-accepted {sites = sites} (of_no_sites empty) accepts =
     let none : accepted [] ≡ accepted sites = sym (reads-are (rw empty end)) ∙ reads-are accepts.read in
     let same : [] ≡ sites = cc in
-    omega (arith, accepts.takes.some_sites, ap length same)
-refused-list-not-accepted {way} {sites = sites} (too_many others read too) accepts =
-    let both : accepted others ≡ accepted sites = reads-unique read accepts.read in
-    let same : others ≡ sites = cc in
-    true≢false (sym too ∙ ap (λ (l : List Site). too_many_test way (length l)) same ∙ accepts.takes.few_enough)
+    omega (arith, accepts.some_sites, ap length same)
 
 -- ---- its place
 

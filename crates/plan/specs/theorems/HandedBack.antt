@@ -4,7 +4,7 @@
 use Rattle.std.specs.Prelude.{◌≡◌, refl, List, [], ◌∷◌, ℕ, ◌+◌, ◌*◌, ◌≤◌, length, replicate}
 use Rattle.std.proofs.Common.{ap, ◌∙◌, subst, arith, length-append}
 use Rattle.std.proofs.Math.Option.{Option, some, none}
-use Rattle.std.proofs.lemmas.Bool.{not-false}
+use Rattle.std.proofs.lemmas.Bool.{eqb-false, not-false}
 use Rattle.std.proofs.lemmas.List.{length-replicate}
 use Rattle.placing.specs.declared.units.Side.{Side}
 use Rattle.placing.specs.declared.way.Way.{Way}
@@ -17,12 +17,12 @@ use Rattle.plan.specs.declared.plan.Plan.{Plan}
 use Rattle.plan.specs.declared.plan.Planned.{Planned}
 use Rattle.plan.specs.rules.Refusal.{Test, first_refusal, Result, accepted, refused, unless}
 use Rattle.plan.specs.rules.List.{Site, places_of, Listed, list_text, entered, wanted_at}
-use Rattle.plan.specs.rules.Calls.{no_good, finding_tests, choosing_tests}
+use Rattle.plan.specs.rules.Calls.{choosing_tests}
 use Rattle.plan.specs.deciding.Output.{exists_at}
 use Rattle.plan.specs.deciding.Reading.{read_list, read_within}
 use Rattle.plan.specs.calls.Plan.{unplaced_plan, placed_with, sites_in, Valid, is_unplaced, is_placed}
 use Rattle.plan.specs.calls.Answers.{started, handed, entered_in, read_from, chosen_in, counted}
-use Rattle.plan.specs.theorems.Tables.{rows_none, rest-none, front-none, ready-takes}
+use Rattle.plan.specs.theorems.Tables.{rows_none}
 use Rattle.plan.specs.theorems.Sites.{listed-none}
 use Rattle.plan.specs.theorems.Entering.{entered-passed, entered-listed}
 use Rattle.plan.specs.theorems.Reading.{read-listed, list_read}
@@ -56,11 +56,11 @@ unplaced-handed sites listed =
 pub valid-handed : {plan : Plan} → Valid plan → HandedBack plan
 unfolding unplaced_plan
 valid-handed (is_unplaced sites listed) = unplaced-handed sites listed
-valid-handed (is_placed sites way answer listed takes chosen) =
+valid-handed (is_placed sites way answer listed nonempty chosen) =
     let table : List ℕ = replicate (length sites * length sites) 0 in
     let room : length sites * length sites ≤ length table = omega (arith, length-replicate {A = ℕ} (length sites * length sites) 0) in
     subst HandedBack
-    (ap (λ (p : Planned). p.plan) (placed_by answer table (holding-unplaced listed) (sites-unplaced sites) takes room chosen))
+    (ap (λ (p : Planned). p.plan) (placed_by answer table (holding-unplaced listed) (sites-unplaced sites) nonempty room chosen))
     (by_choose way answer.side table (unplaced-handed sites listed))
 
 -- ---- every plan that is handed back is valid
@@ -89,18 +89,17 @@ choose-valid {plan} way side table valid = by_first (first_refusal tests) refl
     holding = valid-holding valid
 
     tests : List Test
-    tests = choosing_tests way side plan.count (length table) (exists_at way side (sites_in plan))
+    tests = choosing_tests side plan.count (length table) (exists_at way side (sites_in plan))
 
     by_first : (first : Option Refusal) → first_refusal tests ≡ first
         → Valid (handed (placed_with (sites_in plan) way) plan (unless first (chosen_at way side (places_of (sites_in plan))))).plan
     by_first (some why) is = valid
     by_first none is =
         let none_holds = (rows_none tests is).none_holds in
-        let found = front-none (finding_tests way plan.count (length table)) (no_good (exists_at way side (sites_in plan)) ∷ []) (rest-none 1 tests is) in
-        let takes = ready-takes way plan.count (length table) found in
-        is_placed (sites_in plan) way (chosen_at way side (places_of (sites_in plan))) holding.listed (rw holding.count at takes)
+        let some_sites = eqb-false plan.count 0 (none_holds 1 (omega arith)) in
+        is_placed (sites_in plan) way (chosen_at way side (places_of (sites_in plan))) holding.listed (omega (arith, holding.count))
         (chosen_is way (places_of (sites_in plan)) side (not-false (is_side side) (none_holds 0 (omega arith)))
-        (not-false (exists_at way side (sites_in plan)) (none_holds 4 (omega arith))))
+        (not-false (exists_at way side (sites_in plan)) (none_holds 3 (omega arith))))
 
 -- So every run of the calls does.
 pub handed-valid : {plan : Plan} → HandedBack plan → Valid plan
@@ -123,7 +122,7 @@ read-counted text sites is =
 -- Choosing keeps them.
 pub chosen-counted : (plan : Plan) (way : Way) (side : Side) (table : List ℕ) → counted (chosen_in plan way side table).plan ≡ counted plan
 chosen-counted plan way side table =
-    by_first (first_refusal (choosing_tests way side plan.count (length table) (exists_at way side (sites_in plan)))) (chosen_at way side (places_of (sites_in plan)))
+    by_first (first_refusal (choosing_tests side plan.count (length table) (exists_at way side (sites_in plan)))) (chosen_at way side (places_of (sites_in plan)))
   where
     by_first : (first : Option Refusal) (answer : Answer)
         → counted (handed (placed_with (sites_in plan) way) plan (unless first answer)).plan ≡ counted plan

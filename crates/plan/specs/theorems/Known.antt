@@ -1,8 +1,8 @@
--- Document 01, "Known answers": the cases marked P; and document 02, cases at given sides, L1, above the spot, L2, and on small levels, L5.
--- They are rows of one table with a theorem over the rows: what the calls of starting, entering, finding and choosing lead to. Each row is
--- tested by entering its sites and by the pruned search, which the checker computes, so that a row more needs no proof.
+-- Document 01, "Known answers": the cases marked P; and document 02, cases at given sides, L1, and above the spot, L2. They are rows of one
+-- table with a theorem over the rows: what the calls of starting, entering, finding and choosing lead to. Each row is tested by entering its
+-- sites and by the pruned search, which the checker computes, so that a row more needs no proof.
 -- Assumes nothing.
-use Rattle.std.specs.Prelude.{◌≡◌, Bool, true, false, ◌&&◌, ℕ, suc, ◌+◌, ◌*◌, ◌≤◌, T, eqb}
+use Rattle.std.specs.Prelude.{◌≡◌, Bool, true, false, ◌&&◌, ℕ, suc, ◌+◌, ◌*◌, ◌≤◌, T, eqb, length}
 use Rattle.std.proofs.Math.Path.{refl, ap}
 use Rattle.std.proofs.Common.{sym, ◌∙◌, subst, ⊎_elim, mul-le-mul, arith, lit≤}
 use Rattle.std.proofs.Math.Bool.{not}
@@ -10,41 +10,39 @@ use mathlib.Core.List.Memᴰ
 use mathlib.Core.List.{List, [], ◌∷◌, ◌++◌, map, Memᴰ}
 use Rattle.std.proofs.Math.Option.{Option, some, none}
 use Rattle.std.proofs.Math.Nat.{le_trans}
-use Rattle.std.proofs.Math.ListN.{length}
 use Rattle.placing.specs.declared.units.Place.{Place}
 use Rattle.placing.specs.declared.units.Side.{Side}
 use Rattle.placing.specs.declared.units.Side.TheVariants.{Number, Free}
 use Rattle.placing.specs.declared.way.Way.{Way}
-use Rattle.placing.specs.declared.way.Way.TheVariants.{Usual, Above, Small}
+use Rattle.placing.specs.declared.way.Way.TheVariants.{Usual, Above}
 use Rattle.placing.specs.rules.Choice.{MeetingPair}
 use Rattle.placing.specs.rules.Answer.{Answer, is_side, judged_at, numbered, free}
 use Rattle.placing.specs.deciding.Tests.{eq-decides, both-decide, not-decides, meeting_test, meeting-decides}
 use Rattle.placing.specs.deciding.Answer.{answer_of, is_some, corners_of, chosen_at}
 use Rattle.placing.specs.theorems.FactorTwo.{meeting-larger}
 use Rattle.placing.specs.theorems.Given.{chosen_is}
-use Rattle.placing.specs.deciding.Pruned.{pruned_first}
+use Rattle.placing.specs.theorems.PrunedSearch.{pruned_first}
 use Rattle.placing.specs.theorems.CheckedAnswer.{equal_test, equal-decides, pruned-same, checked_test, checked-right, passed, both-passed}
 use Rattle.plan.specs.declared.refusal.Outcome.TheVariants.{Done, Refused}
 use Rattle.plan.specs.declared.refusal.Outcome.{Outcome}
 use Rattle.plan.specs.declared.refusal.Refusal.{Refusal}
-use Rattle.plan.specs.declared.refusal.Refusal.TheVariants.{BadNumber, NoSites, NoGoodChoice, TooManySites}
+use Rattle.plan.specs.declared.refusal.Refusal.TheVariants.{BadNumber, NoSites, NoGoodChoice}
 use Rattle.plan.specs.declared.plan.AskedSide.{AskedSide}
 use Rattle.plan.specs.declared.plan.AskedSide.TheVariants.{SideIs, NoSide}
 use Rattle.plan.specs.declared.plan.Plan.{Plan}
 use Rattle.plan.specs.declared.plan.Planned.{Planned}
-use Rattle.plan.specs.rules.Refusal.{number_of, Test, ◌gives◌, first_refusal, Result, accepted, refused, unless, after_tests}
+use Rattle.plan.specs.rules.Refusal.{number_of, Test, ◌gives◌, Result, accepted, refused, after_tests}
 use Rattle.plan.specs.rules.Text.{is_name, all_name_bytes, same_bytes}
 use Rattle.plan.specs.rules.List.{Site, place_at, places_of, Listed, entered, wanted_at}
-use Rattle.plan.specs.rules.Calls.{outside, no_good, too_many_test, count_tests}
+use Rattle.plan.specs.rules.Calls.{outside, no_sites, no_good}
 use Rattle.plan.specs.deciding.Output.{exists_at}
 use Rattle.plan.specs.calls.Plan.{unplaced_plan, placed_with}
 use Rattle.plan.specs.calls.Answers.{started, handed, entered_in, side_answer, found_in, chosen_in}
-use Rattle.plan.specs.theorems.Tables.{passes-takes}
 use Rattle.plan.specs.theorems.Sites.{listed-none}
 use Rattle.plan.specs.theorems.Entering.{entered-listed}
 use Rattle.plan.specs.theorems.Sheet.{answer-listed}
 use Rattle.plan.specs.theorems.Plan.{answer_in, placed-answer, sites-unplaced, holding-unplaced}
-use Rattle.plan.specs.theorems.Choosing.{found-listed, chosen-listed, placed_by}
+use Rattle.plan.specs.theorems.Choosing.{chosen-listed, found-done, placed_by}
 use Rattle.plan.specs.theorems.HandedBack.{entered-more}
 
 -- A name and two numbers to enter.
@@ -86,7 +84,7 @@ abbrev pub at : (letter x y : ℕ) → Entry
 at letter x y = record { name = letter ∷ []; x = x; y = y }
 
 -- The lists of which more than one row speaks: one site, two side by side, the unit square, four and five on the diagonal, A, B, C, nine
--- in three rows, three in a row, and ten and eleven in a column.
+-- in three rows, and three in a row.
 abbrev pub alone : List Entry
 alone = at 65 5 5 ∷ []
 
@@ -111,14 +109,7 @@ nine = at 65 0 0 ∷ at 66 1 0 ∷ at 67 2 0 ∷ at 68 0 1 ∷ at 69 1 1 ∷ at 
 abbrev pub in_row : List Entry
 in_row = at 65 0 0 ∷ at 66 3 0 ∷ at 67 10 0 ∷ []
 
-abbrev pub ten : List Entry
-ten = at 65 0 0 ∷ at 66 0 1 ∷ at 67 0 2 ∷ at 68 0 3 ∷ at 69 0 4 ∷ at 70 0 5 ∷ at 71 0 6 ∷ at 72 0 7 ∷ at 73 0 8 ∷ at 74 0 9 ∷ []
-
-abbrev pub eleven : List Entry
-eleven = ten ++ (at 75 0 10 ∷ [])
-
--- Document 01's cases, in its order, and placing a plan of no sites; then those at given sides; then those above the spot; then those on
--- small levels.
+-- Document 01's cases, in its order, and placing a plan of no sites; then those at given sides; then those above the spot.
 abbrev pub rows : List Row
 rows =
     row Usual alone (answered (free (1 ∷ [])))
@@ -166,25 +157,11 @@ rows =
     ∷ given Above column Free (refused_at 3 12)
     ∷ given Above [] (number 0) (refused_at 0 3)
     ∷ given Above [] Free (refused_at 0 8)
-    ∷ row Small column (answered (numbered 12 (3 ∷ 1 ∷ 1 ∷ [])))
-    ∷ row Small nine (answered (numbered 2 (1 ∷ 1 ∷ 1 ∷ 1 ∷ 1 ∷ 1 ∷ 1 ∷ 1 ∷ 1 ∷ [])))
-    ∷ row Small in_row (answered (numbered 14 (2 ∷ 1 ∷ 1 ∷ [])))
-    ∷ row Small diagonal (answered (numbered 4 (2 ∷ 4 ∷ 2 ∷ 4 ∷ 1 ∷ [])))
-    ∷ row Small square (answered (free (3 ∷ 4 ∷ 2 ∷ 1 ∷ [])))
-    ∷ row Small ten (answered (numbered 2 (1 ∷ 1 ∷ 1 ∷ 1 ∷ 1 ∷ 1 ∷ 1 ∷ 1 ∷ 1 ∷ 1 ∷ [])))
-    ∷ row Small eleven (refused_at 11 13)
-    ∷ row Small [] (refused_at 0 8)
-    ∷ given Small column (number 8) (answered (numbered 8 (1 ∷ 1 ∷ 1 ∷ [])))
-    ∷ given Small column (number 9) (answered (numbered 9 (3 ∷ 1 ∷ 1 ∷ [])))
-    ∷ given Small column (number 13) (refused_at 3 12)
-    ∷ given Small eleven (number 0) (refused_at 11 3)
-    ∷ given Small eleven (number 1) (refused_at 11 13)
-    ∷ given Small [] Free (refused_at 0 8)
     ∷ []
 
--- So many rows, and of these so many above the spot, on small levels, at given sides, and with a side up to which labels do not meet: one
--- that is left out is missed.
-pub rows-count : length rows ≡ 53
+-- So many rows, and of these so many above the spot, at given sides, and with a side up to which labels do not meet: one that is left out
+-- is missed.
+pub rows-count : length rows ≡ 39
 rows-count = refl
 
 abbrev count_of : (Row → Bool) → List Row → ℕ
@@ -194,12 +171,6 @@ count_of is (row ∷ rows) = elim (is row) [ true ↦ suc (count_of is rows) | f
 abbrev is_above : Way → Bool
 is_above Usual = false
 is_above Above = true
-is_above Small = false
-
-abbrev is_small : Way → Bool
-is_small Usual = false
-is_small Above = false
-is_small Small = true
 
 abbrev is_told : {A : Type 0} → Option A → Bool
 is_told (some it) = true
@@ -208,10 +179,7 @@ is_told none = false
 pub rows_above : count_of (λ row. is_above row.way) rows ≡ 14
 rows_above = refl
 
-pub rows-small : count_of (λ row. is_small row.way) rows ≡ 14
-rows-small = refl
-
-pub rows-given : count_of (λ row. is_told row.at_side) rows ≡ 25
+pub rows-given : count_of (λ row. is_told row.at_side) rows ≡ 19
 rows-given = refl
 
 pub rows_apart : count_of (λ row. is_told row.apart_to) rows ≡ 1
@@ -265,23 +233,23 @@ abbrev result_end : ℕ → Result Answer → End
 result_end i (accepted answer) = answered answer
 result_end i (refused why) = refused_at i (number_of why)
 
-abbrev end_by : Option (List ℕ) → Way → ℕ → Side → List Site → End
-end_by first way i side sites =
-    result_end i
-    (after_tests (outside side ∷ count_tests way (length sites) ++ (no_good (is_some first) ∷ [])) (record { side = side; corners = corners_of first }))
+abbrev end_by : Option (List ℕ) → ℕ → Side → List Site → End
+end_by first i side sites =
+    result_end i (after_tests (outside side ∷ no_sites (length sites) ∷ no_good (is_some first) ∷ []) (record { side = side; corners = corners_of first }))
 
 abbrev end_at : Way → ℕ → Side → List Site → End
-end_at way i side sites = end_by (pruned_first way (judged_at side) (places_of sites)) way i side sites
+end_at way i side sites = end_by (pruned_first way (judged_at side) (places_of sites)) i side sites
 
 -- What follows an entry: nothing where it is refused.
 abbrev run_on : (List Site → Run) → ℕ → Result (List Site) → Run
 run_on next i (accepted sites) = next sites
 run_on next i (refused why) = stopped i why
 
--- Placing these sites, where there are as many as the way takes.
+-- Placing these sites; placing no sites is refused.
 abbrev run_placed : Way → Option Side → ℕ → List Site → Run
 run_placed way (some side) i sites = ended (end_at way i side sites)
-run_placed way none i sites = run_on through i (after_tests (count_tests way (length sites)) sites)
+run_placed way none i [] = stopped i NoSites
+run_placed way none i (site ∷ sites) = through (site ∷ sites)
 
 -- Entries from number i on, after these sites.
 abbrev run_from : Way → Option Side → ℕ → List Site → List Entry → Run
@@ -303,44 +271,37 @@ module _ (way : Way) (table : List ℕ) (most : ℕ) (enough : most * most ≤ l
   unfolding chosen_at
   choosing-run side i sites listed few =
       ap (onward (λ end. answered (answer_in end)) i) (chosen-listed way side sites table (le_trans (mul-le-mul few few) enough))
-      ∙ by_tests (is_side side) refl (eqb (length sites) 0) (too_many_test way (length sites)) (exists_at way side sites) refl
-      ∙ ap (λ (first : Option (List ℕ)). end_by first way i side sites) (sym (pruned-same way (judged_at side) (places_of sites)))
+      ∙ by_tests (is_side side) refl (eqb (length sites) 0) (exists_at way side sites) refl
+      ∙ ap (λ (first : Option (List ℕ)). end_by first i side sites) (sym (pruned-same way (judged_at side) (places_of sites)))
     where
-      tests : (a b m d : Bool) → List Test
-      tests a b m d = not a gives BadNumber ∷ b gives NoSites ∷ m gives TooManySites ∷ not d gives NoGoodChoice ∷ []
+      tests : (a b d : Bool) → List Test
+      tests a b d = not a gives BadNumber ∷ b gives NoSites ∷ not d gives NoGoodChoice ∷ []
 
-      by_tests : (a : Bool) → is_side side ≡ a → (b m d : Bool) → exists_at way side sites ≡ d
+      by_tests : (a : Bool) → is_side side ≡ a → (b d : Bool) → exists_at way side sites ≡ d
           → onward (λ end. answered (answer_in end)) i
-          (handed (placed_with sites way) (unplaced_plan sites) (after_tests (tests a b m d) (chosen_at way side (places_of sites))))
-          ≡ result_end i (after_tests (tests a b m d) (chosen_at way side (places_of sites)))
-      by_tests false given b m d there = refl
-      by_tests true given true m d there = refl
-      by_tests true given false true d there = refl
-      by_tests true given false false false there = refl
-      by_tests true given false false true there =
+          (handed (placed_with sites way) (unplaced_plan sites) (after_tests (tests a b d) (chosen_at way side (places_of sites))))
+          ≡ result_end i (after_tests (tests a b d) (chosen_at way side (places_of sites)))
+      by_tests false given b d there = refl
+      by_tests true given true d there = refl
+      by_tests true given false false there = refl
+      by_tests true given false true there =
           ap answered (placed-answer sites (chosen_at way side (places_of sites)) (chosen_is way (places_of sites) side given there))
 
   -- Finding the side first.
   finding-run : (i : ℕ) (sites : List Site) → Listed sites → length sites ≤ most
       → found_end table i (unplaced_plan sites) way (found_in (unplaced_plan sites) way table) ≡ end_of way (run_placed way none i sites)
   unfolding unplaced_plan
-  finding-run i sites listed few =
-      ap (found_end table i (unplaced_plan sites) way) (found-listed way sites table room) ∙ by_first (first_refusal (count_tests way (length sites))) refl
-    where
-      room : length sites * length sites ≤ length table
-      room = le_trans (mul-le-mul few few) enough
-
-      answer : Answer
-      answer = answer_of way (places_of sites)
-
-      by_first : (first : Option Refusal) → first_refusal (count_tests way (length sites)) ≡ first
-          → found_end table i (unplaced_plan sites) way (side_answer (unless first (answer_of way (places_of sites)).side))
-          ≡ end_of way (run_on through i (unless first sites))
-      by_first (some why) is = refl
-      by_first none is =
-          ap (onward (λ end. answered (answer_in end)) i)
-          (placed_by answer table (holding-unplaced listed) (sites-unplaced sites) (passes-takes way (length sites) is) room (answer-listed way sites listed))
-          ∙ ap answered (placed-answer sites answer (answer-listed way sites listed))
+  finding-run i [] listed few = refl
+  finding-run i (site ∷ sites) listed few =
+      let plan = unplaced_plan (site ∷ sites) in
+      let room = le_trans (mul-le-mul few few) enough in
+      let answer = answer_of way (places_of (site ∷ sites)) in
+      let found = found-done plan table (λ none. omega arith) room way in
+      let side = ap (λ (l : List Site). (answer_of way (places_of l)).side) (sites-unplaced (site ∷ sites)) in
+      ap (λ (r : Result Side). found_end table i plan way (side_answer r)) (found ∙ ap accepted side)
+      ∙ ap (onward (λ end. answered (answer_in end)) i)
+      (placed_by answer table (holding-unplaced listed) (sites-unplaced (site ∷ sites)) (omega arith) room (answer-listed way (site ∷ sites) listed))
+      ∙ ap answered (placed-answer (site ∷ sites) answer (answer-listed way (site ∷ sites) listed))
 
   -- The calls on plans lead where the sites by themselves do.
   leads-run : (side : Option Side) (i : ℕ) (sites : List Site) → Listed sites → (entries : List Entry) → length sites + length entries ≤ most

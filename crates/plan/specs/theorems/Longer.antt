@@ -104,14 +104,14 @@ read_first input read is = ap read_list (sym is) ∙ by_length (dec_le longest_t
 
 pub output-first : (way : Way) (input read : List ℕ) → take longest_text input ≡ read → output_of way read ≡ output_of way input
 unfolding output_of
-output-first way input read is = ap (λ (r : Result (List Site)). output_for (sheet_of way) (to_place way r)) (read_first input read is)
+output-first way input read is = ap (λ (r : Result (List Site)). output_for (sheet_of way) (to_place r)) (read_first input read is)
 
 -- So it does at a given side.
 pub output-first-at : (way : Way) (side : Side) (input read : List ℕ) → take longest_text input ≡ read
     → output_at way side read ≡ output_at way side input
 unfolding output_at
 output-first-at way side input read is =
-    ap (λ (r : Result (List Site)). output_for (sheet_at way side) (to_place_at way side (exists_at way side) r)) (read_first input read is)
+    ap (λ (r : Result (List Site)). output_for (sheet_at way side) (to_place_at side (exists_at way side) r)) (read_first input read is)
 
 -- ---- its first refused line
 

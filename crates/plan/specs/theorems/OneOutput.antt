@@ -1,13 +1,11 @@
 -- The demands name one output: whoever answers a text by them, by the same way, writes the same bytes.
 -- Assumes nothing.
-use Rattle.std.specs.Prelude.{◌≡◌, refl, true, List, [], ℕ, ◌≤◌, length}
+use Rattle.std.specs.Prelude.{◌≡◌, refl, true, List, [], ℕ, ◌≤◌, ◌<◌, length}
 use Rattle.std.proofs.Common.{sym, ap, ap₂, ◌∙◌, subst, true≢false, inl, inr, arith}
-use Rattle.std.proofs.lemmas.Bool.{false≢true}
 use Rattle.std.proofs.Math.Option.{some}
 use Rattle.std.proofs.Math.Decide.{ℕ_discrete}
 use Rattle.placing.specs.declared.units.Side.{Side}
 use Rattle.placing.specs.declared.way.Way.{Way}
-use Rattle.placing.specs.declared.way.Way.TheVariants.{Usual, Above, Small}
 use Rattle.placing.specs.rules.Choice.{SomeGood}
 use Rattle.placing.specs.rules.Answer.{Answer, is_side, judged_at, IsAnswer}
 use Rattle.placing.specs.theorems.Answer.{answer-unique}
@@ -18,14 +16,14 @@ use Rattle.plan.specs.declared.plan.Plan.{Plan}
 use Rattle.plan.specs.declared.plan.Planned.{Planned}
 use Rattle.plan.specs.rules.List.{Site, places_of, list_text, Reads, end, enter_tests, wanted_at}
 use Rattle.plan.specs.rules.Sheet.{sheet_with, side_on, refusal_line, carried}
-use Rattle.plan.specs.rules.Calls.{too_many_test, finding_tests, choosing_tests, side_tests, corner_tests, write_tests, cleared}
+use Rattle.plan.specs.rules.Calls.{finding_tests, choosing_tests, side_tests, corner_tests, write_tests, cleared}
 use Rattle.plan.specs.deciding.Output.{output_of, exists_at, output_at}
 use Rattle.plan.specs.declared.plan.AskedSide.{AskedSide}
 use Rattle.plan.specs.declared.plan.AskedCorner.{AskedCorner}
 use Rattle.plan.specs.declared.plan.Written.{Written}
 use Rattle.plan.specs.calls.Plan.{unplaced_plan, placed_with, placed_plan, sites_in}
 use Rattle.plan.specs.calls.Answers.{outcome_number, side_asked_number, corner_asked_number, written_number, sheet_for}
-use Rattle.plan.specs.Demands.{Refuses, ChooseTold, FirstRefused, Accepts, ListRefused, at_line, of_no_sites, too_many, RightSheet, SheetFor, Answered, is_refusal_line, list_sheet}
+use Rattle.plan.specs.Demands.{Refuses, ChooseTold, FirstRefused, Accepts, ListRefused, at_line, of_no_sites, RightSheet, SheetFor, Answered, is_refusal_line, list_sheet}
 use Rattle.plan.specs.Demands.{EnterTold, SideTold, CornerTold, WriteTold, ReadTold, read_refused, read_all}
 use Rattle.plan.specs.Demands.{FindTold, ListTold, list_refused, list_is_placed, ListToldAt, is_refused_at, list_is_placed_at}
 use Rattle.plan.specs.Demands.{RefusedAt, out_of_range, refused_list, none_good, PlacedSheet, SheetForAt, AnsweredAt, refusal_at, is_sheet_at}
@@ -34,36 +32,19 @@ use Rattle.plan.specs.theorems.Reading.{reads-unique, reads-are}
 use Rattle.plan.specs.theorems.Plan.{sites-unplaced}
 use Rattle.plan.specs.theorems.FirstLine.{first-refused-one, refused-not-read, refused-list-not-accepted}
 
--- A list of no sites has not too many.
-none-too-many : (way : Way) {text : List ℕ} {sites : List Site} → text ≡ [] → Reads [] text (accepted sites) → too_many_test way (length sites) ≡ true → ⊥
-none-too-many way {sites = sites} empty read too =
-    let both : accepted [] ≡ accepted sites = reads-unique (rw empty end) read in
-    let same : [] ≡ sites = cc in
-    by_way way (ap (λ (l : List Site). too_many_test way (length l)) same ∙ too)
-  where
-    by_way : (way : Way) → too_many_test way 0 ≡ true → ⊥
-    by_way Usual too = false≢true too
-    by_way Above too = false≢true too
-    by_way Small too = false≢true too
-
 -- A list is refused with one number.
-pub refused-one : {way : Way} {text : List ℕ} {n m : ℕ} → ListRefused way text n → ListRefused way text m → n ≡ m
+pub refused-one : {text : List ℕ} {n m : ℕ} → ListRefused text n → ListRefused text m → n ≡ m
 refused-one (at_line f) (at_line g) = (first-refused-one f g).1
 refused-one (at_line f) (of_no_sites empty) = absurd (refused-not-read {sites = []} f (reads-are (rw empty end)))
-refused-one (at_line f) (too_many sites read too) = absurd (refused-not-read f (reads-are read))
 refused-one (of_no_sites empty) (at_line g) = absurd (refused-not-read {sites = []} g (reads-are (rw empty end)))
 refused-one (of_no_sites empty) (of_no_sites other) = refl
-refused-one {way} (of_no_sites empty) (too_many sites read too) = absurd (none-too-many way empty read too)
-refused-one (too_many sites read too) (at_line g) = absurd (refused-not-read g (reads-are read))
-refused-one {way} (too_many sites read too) (of_no_sites empty) = absurd (none-too-many way empty read too)
-refused-one (too_many sites read too) (too_many others also more) = refl
 
 -- Two sheets for the same sites are one.
 pub right-one : {way : Way} {sites : List Site} {one other : List ℕ} → RightSheet way sites one → RightSheet way sites other → one ≡ other
 right-one {sites = sites} a b = a.prints ∙ ap (sheet_with sites) (answer-unique a.is_answer b.is_answer) ∙ sym b.prints
 
 -- A text is accepted as one list of sites.
-accepted-same : {way : Way} {text : List ℕ} {one other : List Site} → Accepts way text one → Accepts way text other → one ≡ other
+accepted-same : {text : List ℕ} {one other : List Site} → Accepts text one → Accepts text other → one ≡ other
 accepted-same {one = one} {other = other} a b =
     let same : accepted one ≡ accepted other = reads-unique a.read b.read in
     cc
@@ -106,7 +87,7 @@ refused-no-sheet {way} {side} (none_good given sites accepts none) for =
     (record { choice = for.placed.corners; good = for.placed.is_chosen.first.good }))
 
 -- Nor is it refused where its sites have a good choice at a side that can be given.
-refused-not-chosen : {way : Way} {side : Side} {text : List ℕ} {sites : List Site} {n : ℕ} → RefusedAt way side text n → Accepts way text sites
+refused-not-chosen : {way : Way} {side : Side} {text : List ℕ} {sites : List Site} {n : ℕ} → RefusedAt way side text n → Accepts text sites
     → is_side side ≡ true → SomeGood way (judged_at side) (places_of sites) → ⊥
 refused-not-chosen (out_of_range r) accepts given some_Good = true≢false (sym given ∙ r)
 refused-not-chosen (refused_list given' r) accepts given some_Good = refused-list-not-accepted r accepts
@@ -149,11 +130,11 @@ carried-sites for = sym for.gives_back ∙ for.placed.list
 -- Choosing: the number of its table, and the plan as it came where that is a refusal;
 pub choose-tells : {plan : Plan} {way : Way} {side : Side} {table : List ℕ} {r : Planned} {after : List ℕ}
     → ChooseTold plan way side table r after
-    → Tells (choosing_tests way side plan.count (length table) (exists_at way side (sites_in plan))) (outcome_number r.outcome)
+    → Tells (choosing_tests side plan.count (length table) (exists_at way side (sites_in plan))) (outcome_number r.outcome)
     × (1 ≤ outcome_number r.outcome → r.plan ≡ plan)
 choose-tells {plan} {way} {side} {table} told = (
   subst (Tells _) (sym told.number_is)
-      (table-tells (choosing_tests way side plan.count (length table) (exists_at way side (sites_in plan)))),
+      (table-tells (choosing_tests side plan.count (length table) (exists_at way side (sites_in plan)))),
   λ some_number. told.plan_kept (λ zero. omega arith),
 )
 
@@ -191,9 +172,9 @@ list-told-at-one {way} {side} (list_is_placed_at sites corners accepts chosen ze
 )
 
 -- So finding, the table being as it came; entering, the plan; writing, the buffer.
-pub find-tells : (plan : Plan) (way : Way) (table : List ℕ) (r : AskedSide) (after : List ℕ) → FindTold plan way table r after
-    → Tells (finding_tests way plan.count (length table)) (side_asked_number r) × (1 ≤ side_asked_number r → after ≡ table)
-find-tells plan way table r after = told-tells (finding_tests way plan.count (length table))
+pub find-tells : (plan : Plan) (table : List ℕ) (r : AskedSide) (after : List ℕ) → FindTold plan table r after
+    → Tells (finding_tests plan.count (length table)) (side_asked_number r) × (1 ≤ side_asked_number r → after ≡ table)
+find-tells plan table r after = told-tells (finding_tests plan.count (length table))
 
 pub enter-tells : (plan : Plan) (name : List ℕ) (x y : ℕ) (r : Planned) → EnterTold plan name x y r
     → Tells (enter_tests (sites_in plan) (wanted_at name x y)) (outcome_number r.outcome) × (1 ≤ outcome_number r.outcome → r.plan ≡ plan)
@@ -234,11 +215,11 @@ pub choose-leaves : {plan : Plan} {way : Way} {side : Side} {table : List ℕ} {
     → ChooseTold plan way side table r after
     → (outcome_number r.outcome ≡ 0 → after ≡ cleared plan.count table)
     × ((outcome_number r.outcome ≡ 12 → after ≡ cleared plan.count table)
-    × ((number : ℕ) → outcome_number r.outcome ≡ number → 1 ≤ number → (number ≡ 12 → ⊥) → after ≡ table))
+    × ((number : ℕ) → outcome_number r.outcome ≡ number → 1 ≤ number → number < 12 → after ≡ table))
 choose-leaves told = (
   λ zero. told.table_cleared (inl zero),
   (
     λ twelve. told.table_cleared (inr twelve),
-    λ number is some_number other. told.table_kept (λ zero. omega (arith, is, zero)) (λ twelve. other (sym is ∙ twelve)),
+    λ number is some_number below. told.table_kept (λ zero. omega (arith, is, zero)) (λ twelve. omega (arith, is, twelve)),
   ),
 )

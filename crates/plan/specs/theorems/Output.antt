@@ -1,8 +1,8 @@
--- A sheet of sites by the rules is right, and the output for a text meets the three demands, with what stands for the third by another way,
+-- A sheet of sites by the rules is right, and the output for a text meets the three demands, with what stands for the third above the spot,
 -- is at most 5,531 bytes long and lies within the array that it is put into.
 -- Assumes nothing.
-use Rattle.std.specs.Prelude.{◌≡◌, refl, Bool, true, false, not, List, [], ◌∷◌, ◌++◌, ◌⊎◌, ℕ, ◌≤◌, eqb, length, drop}
-use Rattle.std.proofs.Common.{sym, ap, ◌∙◌, subst, true≢false, inl, inr, ⊎_elim, arith, ne_eqb, length-append}
+use Rattle.std.specs.Prelude.{◌≡◌, refl, Bool, true, false, not, List, [], ◌∷◌, ℕ, ◌≤◌, length, drop}
+use Rattle.std.proofs.Common.{sym, ap, ◌∙◌, subst, true≢false, arith, ne_eqb, length-append}
 use Rattle.std.proofs.Math.Option.{some, none}
 use Rattle.placing.specs.declared.units.Place.{Place}
 use Rattle.placing.specs.declared.units.Side.{Side}
@@ -13,13 +13,13 @@ use Rattle.placing.specs.theorems.Answer.{answer-is, is-answer-of}
 use Rattle.placing.specs.theorems.Given.{answer-chosen, chosen-answer, chosen_is, some-found}
 use Rattle.plan.specs.declared.plan.Planned.{Planned}
 use Rattle.plan.specs.declared.refusal.Refusal.{Refusal}
-use Rattle.plan.specs.declared.refusal.Refusal.TheVariants.{BadNumber, NoSites, NoGoodChoice, TooManySites}
+use Rattle.plan.specs.declared.refusal.Refusal.TheVariants.{BadNumber, NoGoodChoice}
 use Rattle.plan.specs.rules.Text.{decimal}
-use Rattle.plan.specs.rules.Refusal.{number_of, Test, first_refusal, Result, accepted, refused, unless, after, after_tests}
+use Rattle.plan.specs.rules.Refusal.{number_of, Result, accepted, refused, unless, after, after_tests}
 use Rattle.plan.specs.rules.List.{Site, places_of, Listed, list_text}
 use Rattle.plan.specs.rules.Sheet.{sheet_with, side_on, carried, refusal_line}
 use Rattle.plan.specs.deciding.Output.{sheet_of, sheet_at, output_for, output_of, exists_at, output_at}
-use Rattle.plan.specs.rules.Calls.{no_good, too_many_test, count_tests, Takes, filled_with, to_place, to_place_at}
+use Rattle.plan.specs.rules.Calls.{no_sites, no_good, filled_with, to_place, to_place_at}
 use Rattle.plan.specs.deciding.Reading.{read_list}
 use Rattle.plan.specs.calls.Plan.{placed_plan}
 use Rattle.plan.specs.calls.Answers.{started, handed, list_placed, placed_at, list_placed_at}
@@ -28,7 +28,6 @@ use Rattle.plan.specs.Demands.{
   ListRefused,
   at_line,
   of_no_sites,
-  too_many,
   ListTold,
   list_refused,
   list_is_placed,
@@ -52,16 +51,16 @@ use Rattle.plan.specs.Demands.{
   is_sheet_at,
 }
 use Rattle.plan.specs.theorems.Text.{decimal-short}
-use Rattle.plan.specs.theorems.Tables.{number_small, first-early, first-late, takes-passes}
+use Rattle.plan.specs.theorems.Tables.{number_small}
 use Rattle.plan.specs.theorems.Reading.{reads-are, reads_so, read-listed, read-list, read-condition}
-use Rattle.plan.specs.theorems.Sheet.{chosen-lined, answer-listed, sheet-longest}
+use Rattle.plan.specs.theorems.Sheet.{chosen-lined, answer-listed, sheet-longest, some-to-place}
 use Rattle.plan.specs.calls.Lengths.{most_digits, longest_sheet, longest_refusal_line}
 use Rattle.plan.specs.theorems.ReadOff.{sheet-carries, sheet-again, sheet-again-at, sheet-apart, guaranteed, side-on-sheet, number_read, spots-on-sheet}
 
--- Demands 2 and 3 of the sheet of some sites, with what stands for the third by another way.
-pub sheet-right : (way : Way) (sites : List Site) → Listed sites → Takes way (length sites) → RightSheet way sites (sheet_of way sites)
+-- Demands 2 and 3 of the sheet of some sites, with what stands for the third above the spot.
+pub sheet-right : (way : Way) (sites : List Site) → Listed sites → 1 ≤ length sites → RightSheet way sites (sheet_of way sites)
 unfolding sheet_of
-sheet-right way sites listed takes =
+sheet-right way sites listed some_sites =
     let answer = answer_of way (places_of sites) in
     let is_answer = answer-is way (places_of sites) listed.places_distinct in
     let chosen = answer-listed way sites listed in
@@ -73,9 +72,9 @@ sheet-right way sites listed takes =
       number = number_read answer each;
       spots = spots-on-sheet answer each;
       list = sheet-carries answer each;
-      again = sheet-again way sites listed takes;
+      again = sheet-again way sites listed some_sites;
       free_apart = sheet-apart sites listed chosen;
-      guarantee = guaranteed way listed is_answer each;
+      guarantee = guaranteed way is_answer each;
     }
 
 -- A sheet that prints the side found for its spots is that sheet.
@@ -91,9 +90,9 @@ prints-found {way} {a} sites listed chosen prints =
     ap (sheet_with sites) (chosen-answer is chosen same ∙ is-answer-of listed.places_distinct is)
 
 -- The sheet of some sites at a side.
-pub sheet-placed : {way : Way} {a : Answer} (sites : List Site) → Listed sites → Takes way (length sites) → IsChosen way (places_of sites) a
+pub sheet-placed : {way : Way} {a : Answer} (sites : List Site) → Listed sites → 1 ≤ length sites → IsChosen way (places_of sites) a
     → PlacedSheet way sites a.side (sheet_with sites a)
-sheet-placed {way} {a} sites listed takes chosen =
+sheet-placed {way} {a} sites listed some_sites chosen =
     let each = chosen-lined sites listed chosen in
     record {
       corners = a.corners;
@@ -105,10 +104,10 @@ sheet-placed {way} {a} sites listed takes chosen =
       again = λ printed is.
           let side : some a.side ≡ some printed = sym (side-on-sheet a each) ∙ is in
           let same : a.side ≡ printed = cc in
-          subst (λ (s : Side). output_at way s (carried (sheet_with sites a)) ≡ sheet_with sites a) same (sheet-again-at sites listed takes chosen);
+          subst (λ (s : Side). output_at way s (carried (sheet_with sites a)) ≡ sheet_with sites a) same (sheet-again-at sites listed some_sites chosen);
       free_apart = sheet-apart sites listed chosen;
       right_at_found = λ prints.
-          subst (RightSheet way sites) (sym (prints-found sites listed chosen prints)) (sheet-right way sites listed takes);
+          subst (RightSheet way sites) (sym (prints-found sites listed chosen prints)) (sheet-right way sites listed some_sites);
     }
 
 -- The condition is met by every right sheet,
@@ -122,15 +121,15 @@ right-found {way} {sites} listed right =
     }
 
 -- A list that is accepted has that sheet, and the sheet carries the list.
-pub sheet-for : (way : Way) (text : List ℕ) (sites : List Site) → Accepts way text sites → SheetFor way text (sheet_of way sites)
+pub sheet-for : (way : Way) (text : List ℕ) (sites : List Site) → Accepts text sites → SheetFor way text (sheet_of way sites)
 sheet-for way text sites accepts =
     let listed = read-listed text sites (reads-are accepts.read) in
     record {
       sites = sites;
       accepts = accepts;
-      right = sheet-right way sites listed accepts.takes;
+      right = sheet-right way sites listed accepts.some_sites;
       gives_back =
-          (sheet-right way sites listed accepts.takes).list ∙ read-list text sites (reads-are accepts.read);
+          (sheet-right way sites listed accepts.some_sites).list ∙ read-list text sites (reads-are accepts.read);
     }
 
 -- So the condition is met by every sheet that the program writes at the side found.
@@ -138,10 +137,10 @@ pub sheet-found : {way : Way} {text sheet : List ℕ} → SheetFor way text shee
 sheet-found {text = text} for = right-found (read-listed text for.sites (reads-are for.accepts.read)) for.right
 
 -- At a side too.
-pub sheet-for-at : {way : Way} {a : Answer} (text : List ℕ) (sites : List Site) → Accepts way text sites → IsChosen way (places_of sites) a
+pub sheet-for-at : {way : Way} {a : Answer} (text : List ℕ) (sites : List Site) → Accepts text sites → IsChosen way (places_of sites) a
     → SheetForAt way a.side text (sheet_with sites a)
 sheet-for-at text sites accepts chosen =
-    let placed = sheet-placed sites (read-listed text sites (reads-are accepts.read)) accepts.takes chosen in
+    let placed = sheet-placed sites (read-listed text sites (reads-are accepts.read)) accepts.some_sites chosen in
     record {
       sites = sites;
       accepts = accepts;
@@ -150,56 +149,38 @@ sheet-for-at text sites accepts chosen =
     }
 
 -- An empty text alone has no sites.
-none-refused : (way : Way) (text : List ℕ) → read_list text ≡ accepted [] → ListRefused way text 8
+pub none-refused : (text : List ℕ) → read_list text ≡ accepted [] → ListRefused text 8
 unfolding list_text
-none-refused way text read = of_no_sites (sym (read-list text [] read))
+none-refused text read = of_no_sites (sym (read-list text [] read))
 
--- Sites that are read are as many as the way takes, or refused with 8 or 13.
-pub count-told : (way : Way) (text : List ℕ) (sites : List Site) → read_list text ≡ accepted sites
-    → (Takes way (length sites) × (first_refusal (count_tests way (length sites)) ≡ none))
-    ⊎ ((why : Refusal) × ((first_refusal (count_tests way (length sites)) ≡ some why) × ListRefused way text (number_of why)))
-count-told way text [] read = inr (NoSites, (refl, none-refused way text read))
-count-told way text (site ∷ sites) read = by_count (too_many_test way (length (site ∷ sites))) refl
+-- What is to be placed of a text: refused with a number, or accepted.
+pub data ToPlace (text : List ℕ) : Result (List Site) → Type 0 where
+  not_placed : {why : Refusal} → ListRefused text (number_of why) → ToPlace text (refused why)
+  to_be_placed : {sites : List Site} → Accepts text sites → ToPlace text (accepted sites)
+
+pub text-to-place : (text : List ℕ) → ToPlace text (to_place (read_list text))
+text-to-place text = by-sites (read_list text) refl
   where
-    some_sites : eqb (length (site ∷ sites)) 0 ≡ false
-    some_sites = ne_eqb (length (site ∷ sites)) 0 (λ zero. omega arith)
-
-    by_count : (too : Bool) → too_many_test way (length (site ∷ sites)) ≡ too
-        → (Takes way (length (site ∷ sites)) × (first_refusal (count_tests way (length (site ∷ sites))) ≡ none))
-        ⊎ ((why : Refusal) × ((first_refusal (count_tests way (length (site ∷ sites))) ≡ some why) × ListRefused way text (number_of why)))
-    by_count true is = inr (TooManySites, (rw (some_sites, is), too_many (site ∷ sites) (reads_so read) is))
-    by_count false is =
-        let takes : Takes way (length (site ∷ sites)) = record { some_sites = omega arith; few_enough = is } in
-        inl (takes, takes-passes takes)
-
--- What is to be placed of a text by a way: refused with a number, or accepted.
-pub data ToPlace (way : Way) (text : List ℕ) : Result (List Site) → Type 0 where
-  not_placed : {why : Refusal} → ListRefused way text (number_of why) → ToPlace way text (refused why)
-  to_be_placed : {sites : List Site} → Accepts way text sites → ToPlace way text (accepted sites)
-
-pub text-to-place : (way : Way) (text : List ℕ) → ToPlace way text (to_place way (read_list text))
-text-to-place way text = by-sites (read_list text) refl
-  where
-    by-sites : (sites : Result (List Site)) → read_list text ≡ sites → ToPlace way text (to_place way sites)
-    by-sites (accepted sites) read =
-        ⊎_elim (λ told. rw told.1 (to_be_placed (record { read = reads_so read; takes = told.0 })))
-        (λ told. rw told.1.0 (not_placed told.1.1)) (count-told way text sites read)
+    by-sites : (sites : Result (List Site)) → read_list text ≡ sites → ToPlace text (to_place sites)
+    by-sites (accepted []) read = not_placed (none-refused text read)
+    by-sites (accepted (site ∷ sites)) read =
+        rw (some-to-place (site ∷ sites) (omega arith)) (to_be_placed (record { read = reads_so read; some_sites = omega arith }))
     by-sites (refused why) read = not_placed (at_line (read-condition text why read))
 
 -- The output for every text is the line with its number, or its sheet.
 pub output-answered : (way : Way) (text : List ℕ) → Answered way text (output_of way text)
 unfolding output_of
-output-answered way text = by-sites (text-to-place way text)
+output-answered way text = by-sites (text-to-place text)
   where
-    by-sites : {sites : Result (List Site)} → ToPlace way text sites → Answered way text (output_for (sheet_of way) sites)
+    by-sites : {sites : Result (List Site)} → ToPlace text sites → Answered way text (output_for (sheet_of way) sites)
     by-sites (not_placed reason) = is_refusal_line reason refl
     by-sites (to_be_placed {sites} accepts) = list_sheet (sheet-for way text sites accepts)
 
 -- Reading and placing it tells the same.
 pub list-told : (way : Way) (text : List ℕ) {r : Planned} → r ≡ list_placed way text → ListTold way text r
-list-told way text is = subst (ListTold way text) (sym is) (by-sites (text-to-place way text))
+list-told way text is = subst (ListTold way text) (sym is) (by-sites (text-to-place text))
   where
-    by-sites : {sites : Result (List Site)} → ToPlace way text sites → ListTold way text (handed (placed_plan way) started sites)
+    by-sites : {sites : Result (List Site)} → ToPlace text sites → ListTold way text (handed (placed_plan way) started sites)
     by-sites (not_placed reason) = list_refused reason refl
     by-sites (to_be_placed {sites} accepts) = list_is_placed sites accepts refl refl
 
@@ -208,38 +189,31 @@ list-told way text is = subst (ListTold way text) (sym is) (by-sites (text-to-pl
 -- What is to be placed of a text at a given side: refused with a number, or chosen.
 pub data ToPlaceAt (way : Way) (side : Side) (text : List ℕ) : Result (List Site) → Type 0 where
   not_placed_at : {why : Refusal} → RefusedAt way side text (number_of why) → ToPlaceAt way side text (refused why)
-  is_placed_at : {sites : List Site} → Accepts way text sites → IsChosen way (places_of sites) (chosen_at way side (places_of sites))
+  is_placed_at : {sites : List Site} → Accepts text sites → IsChosen way (places_of sites) (chosen_at way side (places_of sites))
       → ToPlaceAt way side text (accepted sites)
 
 pub text-to-place-at : (way : Way) (side : Side) (text : List ℕ)
-    → ToPlaceAt way side text (to_place_at way side (exists_at way side) (read_list text))
+    → ToPlaceAt way side text (to_place_at side (exists_at way side) (read_list text))
 text-to-place-at way side text = by_side (is_side side) refl
   where
-    -- The tests behind the list's own.
-    tests : List Site → List Test
-    tests sites = count_tests way (length sites) ++ (no_good (exists_at way side sites) ∷ [])
-
-    by-choice : is_side side ≡ true → (sites : List Site) → Accepts way text sites → (exists : Bool) → exists_at way side sites ≡ exists
+    by-choice : is_side side ≡ true → (sites : List Site) → Accepts text sites → (exists : Bool) → exists_at way side sites ≡ exists
         → ToPlaceAt way side text (unless (elim (not exists) [ true ↦ some NoGoodChoice | false ↦ none ]) sites)
     by-choice given sites accepts true there = is_placed_at accepts (chosen_is way (places_of sites) side given there)
     by-choice given sites accepts false there =
         not_placed_at (none_good given sites accepts (λ some_Good. true≢false (sym (some-found some_Good) ∙ there)))
 
     by-sites : is_side side ≡ true → (read : Result (List Site)) → read_list text ≡ read
-        → ToPlaceAt way side text (after read (λ sites. after_tests (tests sites) sites))
-    by-sites given (accepted sites) read =
-        ⊎_elim (λ told.
-        rw (first-late (count_tests way (length sites)) (no_good (exists_at way side sites) ∷ []) told.1)
-        (by-choice given sites (record { read = reads_so read; takes = told.0 }) (exists_at way side sites) refl))
-        (λ told.
-        rw (first-early (count_tests way (length sites)) (no_good (exists_at way side sites) ∷ []) told.1.0)
-        (not_placed_at (refused_list given told.1.1))) (count-told way text sites read)
+        → ToPlaceAt way side text (after read (λ sites. after_tests (no_sites (length sites) ∷ no_good (exists_at way side sites) ∷ []) sites))
+    by-sites given (accepted []) read = not_placed_at (refused_list given (none-refused text read))
+    by-sites given (accepted (site ∷ sites)) read =
+        rw (ne_eqb (length (site ∷ sites)) 0 (λ zero. omega arith))
+        (by-choice given (site ∷ sites) (record { read = reads_so read; some_sites = omega arith }) (exists_at way side (site ∷ sites)) refl)
     by-sites given (refused why) read = not_placed_at (refused_list given (at_line (read-condition text why read)))
 
     by_side : (given : Bool) → is_side side ≡ given
         → ToPlaceAt way side text
         (after (unless (elim (not given) [ true ↦ some BadNumber | false ↦ none ]) (read_list text))
-        (λ listed. after listed (λ sites. after_tests (tests sites) sites)))
+        (λ listed. after listed (λ sites. after_tests (no_sites (length sites) ∷ no_good (exists_at way side sites) ∷ []) sites)))
     by_side true given = by-sites given (read_list text) refl
     by_side false given = not_placed_at (out_of_range given)
 
@@ -274,9 +248,9 @@ refusal-short why = simp length-append (omega (arith, number_short why))
 -- The longest output is a sheet.
 pub output-longest : (way : Way) (text : List ℕ) → length (output_of way text) ≤ longest_sheet
 unfolding output_of sheet_of
-output-longest way text = by-sites (text-to-place way text)
+output-longest way text = by-sites (text-to-place text)
   where
-    by-sites : {sites : Result (List Site)} → ToPlace way text sites → length (output_for (sheet_of way) sites) ≤ longest_sheet
+    by-sites : {sites : Result (List Site)} → ToPlace text sites → length (output_for (sheet_of way) sites) ≤ longest_sheet
     by-sites (not_placed {why} reason) = omega (arith, refusal-short why)
     by-sites (to_be_placed {sites} accepts) =
         let listed = read-listed text sites (reads-are accepts.read) in sheet-longest sites listed (answer-listed way sites listed)

@@ -63,7 +63,7 @@ pub valid-holding : {plan : Plan} → Valid plan → Holding plan (sites_in plan
 unfolding unplaced_plan placed_with
 valid-holding (is_unplaced sites listed) =
     rw (sites-unplaced sites) (record { listed = listed; count = refl; names = refl; places = refl })
-valid-holding (is_placed sites way answer listed takes chosen) =
+valid-holding (is_placed sites way answer listed some_sites chosen) =
     rw (sites-placed sites way answer) (record { listed = listed; count = refl; names = refl; places = refl })
 
 -- ---- the answer of a placed plan
@@ -84,7 +84,7 @@ placed-answer sites answer chosen =
 pub valid-chosen : {plan : Plan} → Valid plan → plan.placed ≡ true → IsChosen plan.way (places_of (sites_in plan)) (answer_in plan)
 unfolding unplaced_plan placed_with
 valid-chosen (is_unplaced sites listed) is-so = absurd (false≢true is-so)
-valid-chosen (is_placed sites way answer listed takes chosen) is-so =
+valid-chosen (is_placed sites way answer listed some_sites chosen) is-so =
     rw (sites-placed sites way answer, placed-answer sites answer chosen) chosen
 
 -- which is the one of the rules;

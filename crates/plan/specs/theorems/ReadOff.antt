@@ -7,22 +7,20 @@ use Rattle.placing.specs.declared.units.Place.{Place}
 use Rattle.placing.specs.declared.units.Side.{Side}
 use Rattle.placing.specs.declared.units.Side.TheVariants.{Number, Free}
 use Rattle.placing.specs.declared.way.Way.{Way}
-use Rattle.placing.specs.declared.way.Way.TheVariants.{Usual, Above, Small}
+use Rattle.placing.specs.declared.way.Way.TheVariants.{Usual, Above}
 use Rattle.placing.specs.rules.Units.{along, X, Y}
 use Rattle.placing.specs.rules.Choice.{Corners, UpperCorners, MeetingPair, Good}
-use Rattle.placing.specs.rules.Answer.{Answer, judged_at, side_number, numbered, free, IsAnswer, is_free, is_number, IsChosen}
+use Rattle.placing.specs.rules.Answer.{Answer, judged_at, side_number, numbered, IsAnswer, is_free, is_number, IsChosen}
 use Rattle.placing.specs.deciding.Answer.{is_some}
 use Rattle.placing.specs.theorems.Choice.{free_apart}
 use Rattle.placing.specs.theorems.Given.{chosen-found, is-chosen-at}
 use Rattle.placing.specs.theorems.FactorTwo.{answer-twice}
-use Rattle.placing.specs.theorems.ExactSide.{answer-exact-above, answer-exact-small}
-use Rattle.placing.specs.theorems.Best.{usual-half, usual-free}
+use Rattle.placing.specs.theorems.ExactSide.{answer-exact}
 use Rattle.plan.specs.rules.Text.{tab, fields_of, Without, number_in, digits_after, decimal, same_bytes}
 use Rattle.plan.specs.rules.List.{Site, places_of, wanted_in, Listed, ByRules, list_line, list_text}
-use Rattle.plan.specs.rules.Calls.{Takes}
 use Rattle.plan.specs.rules.Sheet.{side_word, free_word, side_text, numbered_side, side_in, side_line, site_line, sheet_with, side_on_fields, side_on, number_printed, number_on, spots_on_lines, spots_on, carried_lines, carried, joined, but_last}
 use Rattle.plan.specs.deciding.Output.{sheet_of, sheet_at, output_of, output_at}
-use Rattle.plan.specs.Demands.{FreeApart, NoGreater, UsualHalf, Guarantee}
+use Rattle.plan.specs.Demands.{FreeApart, Guarantee}
 use Rattle.plan.specs.theorems.Text.{parted-one, parted-more, same-bytes-same, same-bytes-refl, number-decimal, decimal-number, decimal-without, name-without}
 use Rattle.plan.specs.theorems.Sites.{listed-in-range}
 use Rattle.plan.specs.theorems.Reading.{list_read}
@@ -80,20 +78,20 @@ sheet-carries a each =
     ap (λ (lines : List (List ℕ)). carried_lines (drop 1 lines)) (sheet-lines a each) ∙ lines-carried each
 
 -- That list, read again, placed the same way and written, gives the same bytes,
-pub sheet-again : (way : Way) (sites : List Site) → Listed sites → Takes way (length sites)
+pub sheet-again : (way : Way) (sites : List Site) → Listed sites → 1 ≤ length sites
     → output_of way (carried (sheet_of way sites)) ≡ sheet_of way sites
 unfolding sheet_of
-sheet-again way sites listed takes =
+sheet-again way sites listed nonempty =
     ap (output_of way) (sheet-carries _ (chosen-lined sites listed (answer-listed way sites listed)))
-    ∙ output-sheet way (list_text sites) sites (list_read sites listed) takes
+    ∙ output-sheet way (list_text sites) sites (list_read sites listed) nonempty
 
 -- at a given side when it is placed there again.
-pub sheet-again-at : {way : Way} {a : Answer} (sites : List Site) → Listed sites → Takes way (length sites) → IsChosen way (places_of sites) a
+pub sheet-again-at : {way : Way} {a : Answer} (sites : List Site) → Listed sites → 1 ≤ length sites → IsChosen way (places_of sites) a
     → output_at way a.side (carried (sheet_with sites a)) ≡ sheet_with sites a
 unfolding sheet_at
-sheet-again-at {way} {a} sites listed takes chosen =
+sheet-again-at {way} {a} sites listed nonempty chosen =
     ap (output_at way a.side) (sheet-carries a (chosen-lined sites listed chosen))
-    ∙ output-sheet-at way a.side (list_text sites) sites (list_read sites listed) chosen.given takes (ap is_some (chosen-found chosen))
+    ∙ output-sheet-at way a.side (list_text sites) sites (list_read sites listed) chosen.given nonempty (ap is_some (chosen-found chosen))
     ∙ ap (sheet_with sites) (sym (is-chosen-at chosen))
 
 -- ---- the side, the number and the spots
@@ -151,25 +149,25 @@ spots-on-sheet a each = ap (λ (lines : List (List ℕ)). spots_on_lines (drop 1
 
 -- ---- free
 
--- A sheet prints free where the side is free.
-free-read : {sites : List Site} (a : Answer) → Lined sites a.corners → side_on (sheet_with sites a) ≡ some Free → a.side ≡ Free
-free-read a each printed = let side : some a.side ≡ some Free = sym (side-on-sheet a each) ∙ printed in cc
-
--- Then the labels at what was chosen for it meet at no side.
+-- Where a sheet prints free, the labels at what was chosen for it meet at no side.
 pub sheet-apart : {way : Way} {a : Answer} (sites : List Site) → Listed sites → IsChosen way (places_of sites) a
     → FreeApart (sheet_with sites a) a.corners
-sheet-apart {way} {a} sites listed chosen =
-    record { none_meet = λ printed p q. by_side (free-read a (chosen-lined sites listed chosen) printed) p q }
+sheet-apart {way} {a} sites listed chosen = record { none_meet = λ printed p q. by_side (is-free-side printed) p q }
   where
+    is-free-side : side_on (sheet_with sites a) ≡ some Free → a.side ≡ Free
+    is-free-side printed =
+        let side : some a.side ≡ some Free = sym (side-on-sheet a (chosen-lined sites listed chosen)) ∙ printed in
+        cc
+
     by_side : a.side ≡ Free → (p q : ℕ) → MeetingPair p q (spots_on (sheet_with sites a)) a.corners → ⊥
     by_side is p q =
         let good = subst (λ (side : Side). Good way (judged_at side) (places_of sites) a.corners) is chosen.first.good in
         rw (spots-on-sheet a (chosen-lined sites listed chosen)) (free_apart (listed-in-range listed) good p q)
 
--- ---- demand 3, and what stands for it by the other ways
+-- ---- demand 3, and what stands for it above the spot
 
 -- An answer whose side has a number is that number's.
-pub numbered-answer : {way : Way} {ps : List Place} {a : Answer} {number : ℕ} → IsAnswer way ps a → side_number a.side ≡ some number
+numbered-answer : {way : Way} {ps : List Place} {a : Answer} {number : ℕ} → IsAnswer way ps a → side_number a.side ≡ some number
     → IsAnswer way ps (numbered number a.corners)
 numbered-answer (is_free first) is = let z : ◌≡◌ {A = ℕ} 0 1 = cc in absurd (omega arith)
 numbered-answer {way} {ps} {number = number} (is_number {h} {cs} none_free least most first above) is =
@@ -183,41 +181,19 @@ of-sheet : {way : Way} {a : Answer} {sites : List Site} {number : ℕ} (Q : ℕ 
 of-sheet {a = a} {number = number} Q holds is_answer each is =
     subst (Q number) (sym (spots-on-sheet a each)) (holds number a.corners (numbered-answer is_answer (sym (number_read a each) ∙ is)))
 
--- Where a way's answers are exact, so are the sheets that have one.
-no-greater : {way : Way} {Choice : ℕ → List ℕ → Type 0} {a : Answer} {sites : List Site}
-    → ((ps : List Place) (h : ℕ) (cs : List ℕ) → IsAnswer way ps (numbered h cs) → (p q : ℕ) → h * q < p → (es : List ℕ)
-    → Choice (length ps) es → MeetingPair p q ps es)
-    → IsAnswer way (places_of sites) a → Lined sites a.corners → NoGreater Choice (sheet_with sites a)
-no-greater {Choice = Choice} {sites = sites} exact is_answer each =
-    record {
-      rivals_meet = λ number p q is some-q.
-          of-sheet (λ h ps. h * q < p → (corners : List ℕ) → Choice (length ps) corners → MeetingPair p q ps corners)
-          (λ h cs answer. exact (places_of sites) h cs answer p q) is_answer each is;
-    }
-
--- The usual side is at least half of that of a small level, and free where that is free.
-usual-half-on : {a : Answer} {sites : List Site} → Listed sites → IsAnswer Small (places_of sites) a → Lined sites a.corners
-    → UsualHalf (sheet_with sites a)
-usual-half-on {a} {sites} listed is_answer each =
-    record {
-      at_least_half = λ {usual} is number half printed counted.
-          of-sheet (λ h ps. IsAnswer Usual ps usual → h ≤ 2 * half) (λ h cs best found. usual-half (numbered-answer found counted) best)
-          is_answer each printed is;
-      free_too = λ {usual} is printed.
-          let best : IsAnswer Small (places_of sites) (free a.corners) =
-          subst (λ (side : Side). IsAnswer Small (places_of sites) (record { side = side; corners = a.corners })) (free-read a each printed) is_answer in
-          usual-free (listed-in-range listed) (subst (λ (ps : List Place). IsAnswer Usual ps usual) (spots-on-sheet a each) is) best;
-    }
-
 -- A sheet with the answer has what its way guarantees: at sides greater than twice its number every rival has two labels that meet; above
--- the spot, at sides greater than the number itself, every rival with corners 1 and 2; on a small level, every rival, and the half.
-pub guaranteed : (way : Way) {a : Answer} {sites : List Site} → Listed sites → IsAnswer way (places_of sites) a → Lined sites a.corners
+-- the spot, at sides greater than the number itself, every rival with corners 1 and 2.
+pub guaranteed : (way : Way) {a : Answer} {sites : List Site} → IsAnswer way (places_of sites) a → Lined sites a.corners
     → Guarantee way (sheet_with sites a)
-guaranteed Usual listed is_answer each =
+guaranteed Usual is_answer each =
     record {
       rivals_meet = λ number p q is.
           of-sheet (λ h ps. 1 ≤ q → 2 * h * q < p → (corners : List ℕ) → Corners (length ps) corners → MeetingPair p q ps corners)
           (λ h cs answer. answer-twice answer p q) is_answer each is;
     }
-guaranteed Above listed is_answer each = no-greater (λ ps h cs. answer-exact-above) is_answer each
-guaranteed Small listed is_answer each = (no-greater (λ ps h cs. answer-exact-small) is_answer each, usual-half-on listed is_answer each)
+guaranteed Above is_answer each =
+    record {
+      rivals_meet = λ number p q is some-q.
+          of-sheet (λ h ps. h * q < p → (corners : List ℕ) → UpperCorners (length ps) corners → MeetingPair p q ps corners)
+          (λ h cs answer. answer-exact answer p q) is_answer each is;
+    }

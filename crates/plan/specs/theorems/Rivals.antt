@@ -1,6 +1,6 @@
 -- Demand 3 in the picture: whoever takes a side greater than twice the number that a sheet prints draws two labels that cover a common
--- point. For a sheet placed above the spot, so does whoever takes a side greater than the number itself and corners 1 and 2; for one placed
--- as a small level, whoever takes such a side. A sheet's own labels do not, where it prints free.
+-- point. For a sheet placed above the spot, so does whoever takes a side greater than the number itself and corners 1 and 2. A sheet's own
+-- labels do not, where it prints free.
 -- Assumes nothing.
 use Rattle.std.specs.Prelude.{◌≡◌, List, ◌≢◌, ℕ, ◌+◌, ◌*◌, ◌≤◌, ◌<◌, length, take, replicate}
 use Rattle.std.proofs.Common.{sym, ◌∙◌, ap, subst, arith}
@@ -10,7 +10,7 @@ use Rattle.placing.specs.declared.units.Place.{Place}
 use Rattle.placing.specs.declared.units.Side.{Side}
 use Rattle.placing.specs.declared.units.Side.TheVariants.{Free}
 use Rattle.placing.specs.declared.way.Way.{Way}
-use Rattle.placing.specs.declared.way.Way.TheVariants.{Usual, Above, Small}
+use Rattle.placing.specs.declared.way.Way.TheVariants.{Usual, Above}
 use Rattle.placing.specs.rules.Units.{site_at, Distinct}
 use Rattle.placing.specs.rules.Corner.{Corner}
 use Rattle.placing.specs.rules.Label.{Point, Covers, point_of}
@@ -22,7 +22,7 @@ use Rattle.placing.specs.theorems.CommonPoint.{meet-exactly, covered-meets}
 use Rattle.plan.specs.rules.List.{Site, Listed, places_of}
 use Rattle.plan.specs.rules.Sheet.{side_on, number_on, spots_on}
 use Rattle.plan.specs.declared.plan.Written.TheVariants.{Bytes}
-use Rattle.plan.specs.Demands.{NoRival, NoGreater, Guarantee, FreeApart, RightSheet, PrintsFound, PlacedSheet, SheetWritten}
+use Rattle.plan.specs.Demands.{NoRival, NoRivalAbove, Guarantee, FreeApart, RightSheet, PrintsFound, PlacedSheet, SheetWritten}
 
 -- The labels of some two of these places, at these corners and the side p/q, cover a common point.
 pub record CommonPoint (p q : ℕ) (ps : List Place) (cs : List ℕ) : Type 0 where
@@ -71,12 +71,11 @@ pub rivals-common : {sheet : List ℕ} → NoRival sheet → Distinct (spots_on 
 rivals-common no_rival spots number p q printed some-q above corners each =
     meeting-common (omega arith) some-q spots (no_rival.rivals_meet number p q printed some-q above corners each)
 
--- The same for every p/q greater than the number itself, and such corners.
-pub greater-common : {Choice : ℕ → List ℕ → Type 0} {sheet : List ℕ} → NoGreater Choice sheet → Distinct (spots_on sheet) → (number p q : ℕ)
-    → number_on sheet ≡ some number → 1 ≤ q → number * q < p → (corners : List ℕ) → Choice (length (spots_on sheet)) corners
-    → CommonPoint p q (spots_on sheet) corners
-greater-common no-greater spots number p q printed some-q above corners each =
-    meeting-common (omega arith) some-q spots (no-greater.rivals_meet number p q printed some-q above corners each)
+-- The same above the spot, for every p/q greater than the number and corners 1 and 2.
+pub rivals-common-above : {sheet : List ℕ} → NoRivalAbove sheet → Distinct (spots_on sheet) → (number p q : ℕ) → number_on sheet ≡ some number
+    → 1 ≤ q → number * q < p → (corners : List ℕ) → UpperCorners (length (spots_on sheet)) corners → CommonPoint p q (spots_on sheet) corners
+rivals-common-above no_rival spots number p q printed some-q above corners each =
+    meeting-common (omega arith) some-q spots (no_rival.rivals_meet number p q printed some-q above corners each)
 
 -- Corner 1 everywhere is a choice of upper corners.
 ones-upper : (n : ℕ) → UpperCorners n (replicate n 1)
@@ -100,17 +99,14 @@ two-lines way sheet number guarantee printed = two (meeting way guarantee)
     meeting : (w : Way) → Guarantee w sheet → MeetingPair (2 * number + 1) 1 (spots_on sheet) (replicate (length (spots_on sheet)) 1)
     meeting Usual no_rival =
         no_rival.rivals_meet number (2 * number + 1) 1 printed (omega arith) (omega arith) _ (ones-upper (length (spots_on sheet))).corners
-    meeting Above no-greater =
-        no-greater.rivals_meet number (2 * number + 1) 1 printed (omega arith) (omega arith) _ (ones-upper (length (spots_on sheet)))
-    meeting Small (no-greater, half) =
-        no-greater.rivals_meet number (2 * number + 1) 1 printed (omega arith) (omega arith) _ (ones-upper (length (spots_on sheet))).corners
+    meeting Above no_rival =
+        no_rival.rivals_meet number (2 * number + 1) 1 printed (omega arith) (omega arith) _ (ones-upper (length (spots_on sheet)))
 
 -- A rival of n lines by each way, said a second time so that a guarantee with a premise more is not enough: its side p/q is greater than
 -- what the way guarantees of a number h, and these are its corners.
 abbrev pub Rival : Way → (h p q n : ℕ) → List ℕ → Type 0
 Rival Usual h p q n corners = (2 * h * q < p) × Corners n corners
 Rival Above h p q n corners = (h * q < p) × UpperCorners n corners
-Rival Small h p q n corners = (h * q < p) × Corners n corners
 
 -- By each way two labels of every rival cover a common point.
 guaranteed-common : (way : Way) (sheet : List ℕ) → Guarantee way sheet → Distinct (spots_on sheet) → (number p q : ℕ)
@@ -119,9 +115,7 @@ guaranteed-common : (way : Way) (sheet : List ℕ) → Guarantee way sheet → D
 guaranteed-common Usual sheet guarantee spots number p q printed some-q corners rival =
     rivals-common guarantee spots number p q printed some-q rival.0 corners rival.1
 guaranteed-common Above sheet guarantee spots number p q printed some-q corners rival =
-    greater-common guarantee spots number p q printed some-q rival.0 corners rival.1
-guaranteed-common Small sheet (no-greater, half) spots number p q printed some-q corners rival =
-    greater-common no-greater spots number p q printed some-q rival.0 corners rival.1
+    rivals-common-above guarantee spots number p q printed some-q rival.0 corners rival.1
 
 -- The same from the answer's own number: over a right sheet for some sites, every rival of the number of their answer draws two labels that
 -- cover a common point.

@@ -1,18 +1,17 @@
 -- Laws of a sheet: what its answer's part is, its lines, and how long it is.
 -- Assumes nothing.
 use Rattle.std.specs.Prelude.{◌≡◌, refl, true, List, [], ◌∷◌, ℕ, suc, ◌+◌, ◌*◌, ◌≤◌, ◌<◌, length, get_or}
-use Rattle.std.proofs.Common.{ap, ◌∙◌, arith, length-append}
-use Rattle.std.proofs.Math.Option.{Option}
+use Rattle.std.proofs.Common.{ap, ◌∙◌, arith, ne_eqb, length-append}
 use Rattle.std.proofs.lemmas.List.{length-map}
 use Rattle.placing.specs.declared.units.Place.{Place}
 use Rattle.placing.specs.declared.units.Side.{Side}
 use Rattle.placing.specs.declared.units.Side.TheVariants.{Number, Free}
 use Rattle.placing.specs.declared.way.Way.{Way}
-use Rattle.placing.specs.declared.way.Way.TheVariants.{Usual, Above, Small}
+use Rattle.placing.specs.declared.way.Way.TheVariants.{Usual, Above}
 use Rattle.placing.specs.rules.Units.{free_side, along, X, Y}
 use Rattle.placing.specs.rules.Corner.{Corner}
 use Rattle.placing.specs.rules.Crowd.{Crowded}
-use Rattle.placing.specs.rules.Choice.{Corners, corner_at, Allowed, uncrowded, upper, crowded_or_not, Good}
+use Rattle.placing.specs.rules.Choice.{Corners, corner_at, Allowed, uncrowded, upper, Good}
 use Rattle.placing.specs.rules.Answer.{Answer, is_side, IsAnswer, is_free, is_number, IsChosen}
 use Rattle.placing.specs.deciding.Answer.{answer_of}
 use Rattle.placing.specs.theorems.Answer.{answer-is}
@@ -20,14 +19,12 @@ use Rattle.placing.specs.theorems.Given.{number-range, answer-chosen}
 use Rattle.plan.specs.rules.Text.{tab, line_feed, Without, decimal}
 use Rattle.plan.specs.rules.List.{Site, places_of, place_of, no_site, Listed, ByRules, list_line}
 use Rattle.plan.specs.rules.Sheet.{side_word, side_text, side_line, site_line, site_lines, sheet_with, lines_of}
-use Rattle.plan.specs.rules.Calls.{Takes, to_place, to_place_at}
+use Rattle.plan.specs.rules.Calls.{to_place, to_place_at}
 use Rattle.plan.specs.deciding.Output.{sheet_of, sheet_at, output_for, output_of, exists_at, output_at}
-use Rattle.plan.specs.rules.Refusal.{Result, accepted, unless}
-use Rattle.plan.specs.declared.refusal.Refusal.{Refusal}
+use Rattle.plan.specs.rules.Refusal.{Result, accepted}
 use Rattle.plan.specs.deciding.Reading.{read_list}
 use Rattle.plan.specs.theorems.Text.{without-append, lines_more, lines_none, decimal-without, decimal-short, decimal-some, decimal_digit, name-short, name-some}
 use Rattle.plan.specs.calls.Lengths.{most_digits, longest_site_line, shortest_site_line, longest_sheet, shortest_sheet, shortest_sheet_at}
-use Rattle.plan.specs.theorems.Tables.{takes-some, takes-passes}
 use Rattle.plan.specs.theorems.Reading.{line-without}
 
 -- ---- what the side and the corners on a sheet are
@@ -66,7 +63,6 @@ alone-good way h p =
     allowed : (way : Way) → Allowed way h (p ∷ []) 0 1
     allowed Usual = uncrowded (λ (crowded : Crowded h (p ∷ []) 0 1). crowded.different (omega (arith, crowded.listed)))
     allowed Above = upper {c = 1} (omega arith)
-    allowed Small = crowded_or_not
 
 -- So the side of one site is the word free.
 alone-free : {way : Way} {p : Place} {a : Answer} → IsAnswer way (p ∷ []) a → 4 ≤ length (side_text a.side)
@@ -210,25 +206,25 @@ sheet-shortest way (site ∷ next ∷ sites) listed nonempty =
 
 -- ---- the output
 
--- A list of as many sites as the way takes is placed.
-pub some-to-place : {way : Way} (sites : List Site) → Takes way (length sites) → to_place way (accepted sites) ≡ accepted sites
-some-to-place sites takes = ap (λ (first : Option Refusal). unless first sites) (takes-passes takes)
+-- A list of some sites is placed.
+pub some-to-place : (sites : List Site) → 1 ≤ length sites → to_place (accepted sites) ≡ accepted sites
+some-to-place sites nonempty = rw (ne_eqb (length sites) 0 (λ zero. omega arith))
 
--- So the output for a text that is read as such sites is their sheet.
-pub output-sheet : (way : Way) (text : List ℕ) (sites : List Site) → read_list text ≡ accepted sites → Takes way (length sites)
+-- So the output for a text that is read as some sites is their sheet.
+pub output-sheet : (way : Way) (text : List ℕ) (sites : List Site) → read_list text ≡ accepted sites → 1 ≤ length sites
     → output_of way text ≡ sheet_of way sites
 unfolding output_of
-output-sheet way text sites read takes =
-    ap (λ (r : Result (List Site)). output_for (sheet_of way) (to_place way r)) read ∙ ap (output_for (sheet_of way)) (some-to-place sites takes)
+output-sheet way text sites read nonempty =
+    ap (λ (r : Result (List Site)). output_for (sheet_of way) (to_place r)) read ∙ ap (output_for (sheet_of way)) (some-to-place sites nonempty)
 
 -- At a given side that has a good choice likewise.
-pub some-to-place-at : (way : Way) (side : Side) (sites : List Site) → is_side side ≡ true → Takes way (length sites)
-    → exists_at way side sites ≡ true → to_place_at way side (exists_at way side) (accepted sites) ≡ accepted sites
-some-to-place-at way side sites given takes there = rw (given, takes-some takes, takes.few_enough, there)
+pub some-to-place-at : (way : Way) (side : Side) (sites : List Site) → is_side side ≡ true → 1 ≤ length sites
+    → exists_at way side sites ≡ true → to_place_at side (exists_at way side) (accepted sites) ≡ accepted sites
+some-to-place-at way side sites given nonempty there = rw (given, ne_eqb (length sites) 0 (λ zero. omega arith), there)
 
 pub output-sheet-at : (way : Way) (side : Side) (text : List ℕ) (sites : List Site) → read_list text ≡ accepted sites → is_side side ≡ true
-    → Takes way (length sites) → exists_at way side sites ≡ true → output_at way side text ≡ sheet_at way side sites
+    → 1 ≤ length sites → exists_at way side sites ≡ true → output_at way side text ≡ sheet_at way side sites
 unfolding output_at
-output-sheet-at way side text sites read given takes there =
-    ap (λ (r : Result (List Site)). output_for (sheet_at way side) (to_place_at way side (exists_at way side) r)) read
-    ∙ ap (output_for (sheet_at way side)) (some-to-place-at way side sites given takes there)
+output-sheet-at way side text sites read given nonempty there =
+    ap (λ (r : Result (List Site)). output_for (sheet_at way side) (to_place_at side (exists_at way side) r)) read
+    ∙ ap (output_for (sheet_at way side)) (some-to-place-at way side sites given nonempty there)

@@ -1,21 +1,16 @@
 -- "No refusal is given outside its condition": one theorem for the table of every call. Its number is that of the first row whose test
 -- holds, and where no test holds it is 0.
 -- Assumes nothing.
-use Rattle.std.specs.Prelude.{◌≡◌, refl, Bool, true, false, List, [], ◌∷◌, ◌++◌, ℕ, zero, suc, ◌≤◌, ◌<◌, eqb, length, get_or, drop}
-use Rattle.std.proofs.Common.{sym, ap, ◌∙◌, true≢false, arith, ne_eqb, le-ltb}
+use Rattle.std.specs.Prelude.{◌≡◌, refl, Bool, true, false, List, [], ◌∷◌, ◌++◌, ℕ, zero, suc, ◌≤◌, ◌<◌, length, get_or, drop}
+use Rattle.std.proofs.Common.{sym, ap, ◌∙◌, true≢false, arith}
 use Rattle.std.proofs.Math.Option.{Option, some, none}
 use Rattle.std.proofs.Math.Decide.{dec_lt}
-use Rattle.std.proofs.lemmas.Bool.{eqb-false}
 use Rattle.plan.specs.declared.refusal.Refusal.{Refusal}
-use Rattle.plan.specs.declared.refusal.Refusal.TheVariants.{BadLine, BadName, BadNumber, NameTaken, PlaceTaken, NoSuchSite, Full, NoSites, NotPlaced, ShortBuffer, ShortTable, NoGoodChoice, TooManySites}
-use Rattle.placing.specs.declared.way.Way.{Way}
-use Rattle.placing.specs.declared.way.Way.TheVariants.{Usual, Above, Small}
-use Rattle.placing.specs.rules.Units.{most_small_sites}
-use Rattle.plan.specs.rules.Calls.{short_table, count_tests, Takes, finding_tests}
+use Rattle.plan.specs.declared.refusal.Refusal.TheVariants.{BadLine, BadName, BadNumber, NameTaken, PlaceTaken, NoSuchSite, Full, NoSites, NotPlaced, ShortBuffer, ShortTable, NoGoodChoice}
 use Rattle.plan.specs.rules.Refusal.{number_of, Test, ◌gives◌, first_refusal, refusal_number, number_by, Result, accepted, refused, unless}
 
--- Numbers of refusals go from 1 to 13.
-number-range : (why : Refusal) → (1 ≤ number_of why) × (number_of why ≤ 13)
+-- Numbers of refusals go from 1 to 12.
+number-range : (why : Refusal) → (1 ≤ number_of why) × (number_of why ≤ 12)
 number-range BadLine = omega arith
 number-range BadName = omega arith
 number-range BadNumber = omega arith
@@ -28,12 +23,11 @@ number-range NotPlaced = omega arith
 number-range ShortBuffer = omega arith
 number-range ShortTable = omega arith
 number-range NoGoodChoice = omega arith
-number-range TooManySites = omega arith
 
 pub number-some : (why : Refusal) → 1 ≤ number_of why
 number-some why = (number-range why).0
 
-pub number_small : (why : Refusal) → number_of why ≤ 13
+pub number_small : (why : Refusal) → number_of why ≤ 12
 number_small why = (number-range why).1
 
 -- Row number i of a table, from 0.
@@ -115,19 +109,6 @@ rest-none zero tests is = is
 rest-none (suc k) [] is = is
 rest-none (suc k) (test ∷ tests) is = rest-none k tests (first-none test tests is).1
 
--- Nor do those in front of others.
-pub front-none : (tests more : List Test) → first_refusal (tests ++ more) ≡ none → first_refusal tests ≡ none
-front-none [] more is = refl
-front-none (test ∷ tests) more is =
-    let both = first-none test (tests ++ more) is in
-    ap (λ (b : Bool). elim b [ true ↦ some test.refusal | false ↦ first_refusal tests ]) both.0 ∙ front-none tests more both.1
-
--- A row whose test does not hold can be left out.
-pub first-without : (tests more : List Test) (why : Refusal) → first_refusal (tests ++ (false gives why ∷ more)) ≡ first_refusal (tests ++ more)
-first-without [] more why = refl
-first-without (test ∷ tests) more why =
-    ap (λ (f : Option Refusal). elim test.holds [ true ↦ some test.refusal | false ↦ f ]) (first-without tests more why)
-
 -- More rows behind a table that gives a refusal change nothing; behind one that gives none they decide.
 pub first-early : (tests more : List Test) {why : Refusal} → first_refusal tests ≡ some why → first_refusal (tests ++ more) ≡ some why
 first-early [] more is = let z : ◌≡◌ {A = ℕ} 0 1 = cc in absurd (omega arith)
@@ -177,30 +158,3 @@ tells-one tests {n} {m} (a_row some-n f) (a_row some-m g) = by_order (dec_lt f.r
 tells-one tests (a_row some-n f) (no_row rest) = absurd (no_both f.holds (rest.none_holds f.row f.listed))
 tells-one tests (no_row rest) (a_row some-m g) = absurd (no_both g.holds (rest.none_holds g.row g.listed))
 tells-one tests (no_row rest) (no_row other) = refl
-
--- ---- the count
-
--- Of as many sites as a way takes neither test holds,
-pub takes-some : {way : Way} {n : ℕ} → Takes way n → eqb n 0 ≡ false
-takes-some {n = n} takes = ne_eqb n 0 (λ zero. omega (arith, takes.some_sites))
-
-pub takes-passes : {way : Way} {n : ℕ} → Takes way n → first_refusal (count_tests way n) ≡ none
-takes-passes takes = rw (takes-some takes, takes.few_enough)
-
--- and where neither holds it takes them.
-pub passes-takes : (way : Way) (n : ℕ) → first_refusal (count_tests way n) ≡ none → Takes way n
-passes-takes way n passes =
-    let rows = (rows_none (count_tests way n) passes).none_holds in
-    let some_sites = eqb-false n 0 (rows 0 (omega arith)) in
-    record { some_sites = omega arith; few_enough = rows 1 (omega arith) }
-
--- So it does where no test of finding holds.
-pub ready-takes : (way : Way) (n bytes : ℕ) → first_refusal (finding_tests way n bytes) ≡ none → Takes way n
-ready-takes way n bytes ready = passes-takes way n (front-none (count_tests way n) (short_table n bytes ∷ []) ready)
-
--- The small way takes every number of sites from 1 to 10 (and no more: `thirteen-found` of `Choosing`), the two others every number from 1 on.
-pub small-takes : (n : ℕ) → 1 ≤ n → n ≤ 10 → Takes Small n
-small-takes n some_sites few = record { some_sites = some_sites; few_enough = le-ltb most_small_sites n few }
-
-pub others-take : (n : ℕ) → 1 ≤ n → Takes Usual n × Takes Above n
-others-take n some_sites = (record { some_sites = some_sites; few_enough = refl }, record { some_sites = some_sites; few_enough = refl })

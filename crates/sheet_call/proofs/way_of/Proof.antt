@@ -1,4 +1,4 @@
--- `sheet_call::way_of` meets its contract: the numbers of the ways are tested one after another. Assumes nothing.
+-- `sheet_call::way_of` meets its contract: the usual way's number is tested first. Assumes nothing.
 use borrow.Author.Tests.{eq-eqb, ne_eqb}
 use Rattle.sheet_call.specs.Call.{way_of}
 use Rattle.sheet_call.proofs.way_of.Statement.{statement}
@@ -11,10 +11,7 @@ returns-2 : tie.Need-returns-2
 returns-2 c = rw (ne_eqb _ 1 c.before.if1.false, eq-eqb _ 2 c.if2.true, way_of)
 
 returns-3 : tie.Need-returns-3
-returns-3 c = rw (ne_eqb _ 1 c.before.before.if1.false, ne_eqb _ 2 c.before.if2.false, eq-eqb _ 3 c.if3.true, way_of)
-
-returns-4 : tie.Need-returns-4
-returns-4 c = rw (ne_eqb _ 1 c.before.before.if1.false, ne_eqb _ 2 c.before.if2.false, ne_eqb _ 3 c.if3.false, way_of)
+returns-3 c = rw (ne_eqb _ 1 c.before.if1.false, ne_eqb _ 2 c.if2.false, way_of)
 
 pub way-of-spec : {M : Type 1} → statement M
-way-of-spec = tie.close (tie.spec returns returns-2 returns-3 returns-4)
+way-of-spec = tie.close (tie.spec returns returns-2 returns-3)

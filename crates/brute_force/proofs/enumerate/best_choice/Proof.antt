@@ -4,10 +4,10 @@ use Rattle.brute_force.proofs.enumerate.best_choice.Statement.{statement}
 use Rattle.brute_force.proofs.enumerate.best_choice.Tie as tie
 
 abbrev invariant-loop : tie.invariant-loop
-invariant-loop sites rules end best₀ number₀ best number = number ≤ end
+invariant-loop sites rules floor end best₀ number₀ best number = number ≤ end
 
 abbrev decreases-loop : tie.decreases-loop
-decreases-loop sites rules end best₀ number₀ best number = end - number
+decreases-loop sites rules floor end best₀ number₀ best number = end - number
 
 choices-requires : tie.Need-choices-requires invariant-loop decreases-loop
 choices-requires c κs = search rules

@@ -16,31 +16,11 @@ enum-told-2 c = search rules
 upper-corners-requires : tie.Need-upper-corners-requires
 upper-corners-requires c κs = search rules
 
-enum-told-3 : tie.Need-enum-told-3
-enum-told-3 c = search rules
-
-all-corners-requires : tie.Need-all-corners-requires
-all-corners-requires c κs = search rules
-
 returns : tie.Need-returns
 returns c = rw c.before.enum_told.given.1 c.crowding-of.ensures
 
 returns-2 : tie.Need-returns-2
 returns-2 c = rw c.before.enum-told2.given.1 (c.upper-corners.ensures _)
 
-returns-3 : tie.Need-returns-3
-returns-3 c = rw c.before.enum-told3.given.1 (c.all-corners.ensures _ _ c.before.before.before.requires.few)
-
 pub reaches-of-spec : {M : Type 1} → statement M
-reaches-of-spec =
-    tie.close
-    (tie.spec
-    enum_told
-    crowding-of-requires
-    enum-told-2
-    upper-corners-requires
-    enum-told-3
-    all-corners-requires
-    returns
-    returns-2
-    returns-3)
+reaches-of-spec = tie.close (tie.spec enum_told crowding-of-requires enum-told-2 upper-corners-requires returns returns-2)

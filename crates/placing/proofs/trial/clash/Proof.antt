@@ -1,20 +1,17 @@
--- `trial::clash` meets its contract: sites far away along an axis do not meet; of the others `growth` tells, and then whether they are two
--- sites is left.
+-- `trial::clash` meets its contract: sites far away along x do not meet; of the others `growth` tells, and then whether they are two sites
+-- is left.
 -- Assumes nothing.
-use mathlib.Core.Bool.{false}
-use mathlib.Core.List.{List}
 use mathlib.Core.Path.{◌≡◌, ap, ap₂, ◌∙◌}
-use Prim.Native.Nat.{ℕ, ◌*◌, ◌≤◌}
+use Prim.Native.Nat.{ℕ}
 use native.Mathlib.Omega.{arith}
 use Rattle.placing.specs.declared.geometry.Label.{Label}
-use Rattle.placing.specs.declared.units.HalfUnits.{HalfUnits}
 use Rattle.placing.specs.declared.units.Place.{Place}
-use Rattle.placing.specs.rules.Units.{Axis, X, Y, along, in_half_units, dist}
+use Rattle.placing.specs.rules.Units.{X}
 use Rattle.placing.specs.rules.Corner.{directions_of}
 use Rattle.placing.specs.code.Sites.{site_in}
-use Rattle.placing.specs.code.Steps.{label_at, Clash}
+use Rattle.placing.specs.code.Steps.{label_at}
 use Rattle.placing.specs.deciding.Growth.{growth_of}
-use Rattle.placing.specs.deciding.Decides.{Decides, decides-same, decides-no}
+use Rattle.placing.specs.deciding.Decides.{decides-same, decides-no}
 use Rattle.placing.specs.deciding.Tests.{not-decides, eq-decides}
 use Rattle.placing.specs.theorems.Label.{overlap-near}
 use Rattle.placing.specs.theorems.Growth.{meet-exceeds}
@@ -48,45 +45,20 @@ distance-requires c κs =
 at-most-requires : tie.Need-at-most-requires
 at-most-requires c κs = search rules
 
--- Sites twice the side apart along an axis, or farther, do not clash.
-too_far : {h k c j e : ℕ} {xs ys : List ℕ} {twice apart : HalfUnits} (axis : Axis) → twice.0 ≡ 2 * h
-    → apart.0 ≡ in_half_units (dist (along axis (site_in xs ys k)) (along axis (site_in xs ys j))) → twice.0 ≤ apart.0
-    → Decides false (Clash h xs ys k c j e)
-too_far axis doubled measured far = decides-no (λ clash. omega (arith, far, doubled, measured, overlap-near (clash.meets axis)))
-
 returns : tie.Need-returns
 returns c a e own_is toward_is =
     let compared = c.before in
     let measured = compared.before in
-    let there = measured.before.before in
-    too_far X measured.before.doubled.ensures
-    (rw (ap (λ (l : Label). l.site) own_is, there.place_at.ensures) at measured.distance.ensures)
-    (compared.at_most.ensures.yes_holds c.if1.true)
-
-doubled-requires-2 : tie.Need-doubled-requires-2
-doubled-requires-2 c κs = search rules
-
-distance-requires-2 : tie.Need-distance-requires-2
-distance-requires-2 c κs =
-    let there = c.before.before.before.before.before in
-    let start = there.before.before.before.before in
-    (start.requires.0.on_y, rw there.place_at.ensures start.requires.1.on_plan.on_y)
-
-at-most-requires-2 : tie.Need-at-most-requires-2
-at-most-requires-2 c κs = search rules
-
-returns-2 : tie.Need-returns-2
-returns-2 c a e own_is toward_is =
-    let compared = c.before in
-    let measured = compared.before in
-    let there = measured.before.before.before.before.before.before in
-    too_far Y measured.before.doubled2.ensures
-    (rw (ap (λ (l : Label). l.site) own_is, there.place_at.ensures) at measured.distance2.ensures)
-    (compared.at-most2.ensures.yes_holds c.if2.true)
+    let twice = measured.before in
+    let there = twice.before in
+    let own = there.before.before.before.before.args.own in
+    let far = compared.at_most.ensures.yes_holds c.if1.true in
+    let apart = rw (ap (λ (l : Label). l.site) own_is, there.place_at.ensures) at measured.distance.ensures in
+    decides-no (λ clash. omega (arith, far, twice.doubled.ensures, apart, overlap-near (clash.meets X)))
 
 growth-requires : tie.Need-growth-requires
 growth-requires c κs =
-    let there = c.before.before.before.before.before.before.before.before in
+    let there = c.before.before.before.before in
     let start = there.before.before.before.before in
     (start.requires.0, rw there.place_at.ensures start.requires.1.on_plan)
 
@@ -95,7 +67,7 @@ exceeds-requires c κs = search rules
 
 -- The function's start, from where the side is compared.
 abbrev start : tie.After-exceeds → tie.Start
-start c = c.before.before.before.before.before.before.before.before.before.before.before.before.before.before
+start c = c.before.before.before.before.before.before.before.before.before.before
 
 -- The two sites, as the arrays have them.
 abbrev own-site : tie.After-exceeds → Place
@@ -110,21 +82,21 @@ grown : (c : tie.After-exceeds) (a e : ℕ) → (start c).args.own ≡ label_at 
 grown c a e own_is toward_is =
     c.before.growth.ensures a e (ap (λ (l : Label). l.toward) own_is) toward_is
     ∙ ap₂ (λ (s t : Place). growth_of s a t e) (ap (λ (l : Label). l.site) own_is)
-    c.before.before.before.before.before.before.before.before.before.before.place_at.ensures
+    c.before.before.before.before.before.before.place_at.ensures
+
+returns-2 : tie.Need-returns-2
+returns-2 c a e own_is toward_is =
+    let compared = c.before in
+    let args = (start compared).args in
+    let more = rw (grown compared a e own_is toward_is) at (compared.exceeds.ensures.yes_holds c.if2.true) in
+    decides-same (λ different. record { different = different; meets = (meet-exceeds args.side.0 1 (own-site compared) a (other-site compared) e).1 more })
+    (λ clash. clash.different) (not-decides (eq-decides args.j args.k))
 
 returns-3 : tie.Need-returns-3
 returns-3 c a e own_is toward_is =
     let compared = c.before in
-    let args = (start compared).args in
-    let more = rw (grown compared a e own_is toward_is) at (compared.exceeds.ensures.yes_holds c.if3.true) in
-    decides-same (λ different. record { different = different; meets = (meet-exceeds args.side.0 1 (own-site compared) a (other-site compared) e).1 more })
-    (λ clash. clash.different) (not-decides (eq-decides args.j args.k))
-
-returns-4 : tie.Need-returns-4
-returns-4 c a e own_is toward_is =
-    let compared = c.before in
     decides-no (λ clash.
-    compared.exceeds.ensures.no_fails c.if3.false
+    compared.exceeds.ensures.no_fails c.if2.false
     (rw (grown compared a e own_is toward_is) ((meet-exceeds _ 1 (own-site compared) a (other-site compared) e).0 clash.meets)))
 
 pub clash-spec : {M : Type 1} → statement M
@@ -140,11 +112,7 @@ clash-spec =
     distance-requires
     at-most-requires
     returns
-    doubled-requires-2
-    distance-requires-2
-    at-most-requires-2
-    returns-2
     growth-requires
     exceeds-requires
-    returns-3
-    returns-4)
+    returns-2
+    returns-3)

@@ -9,7 +9,6 @@ use Rattle.placing.specs.theorems.Given.{judged-range}
 use Rattle.plan.specs.declared.plan.Plan.{Plan}
 use Rattle.plan.specs.declared.plan.Planned.{Planned}
 use Rattle.plan.specs.declared.refusal.Outcome.TheVariants.{Done}
-use Rattle.plan.specs.theorems.Tables.{ready-takes}
 use Rattle.plan.specs.theorems.Plan.{valid-holding}
 use Rattle.plan.specs.code.Entering.{outcome-refused, outcome-done}
 use Rattle.plan.specs.code.PlanLaws.{holding-ready, holding-placed, holding-exists}
@@ -33,7 +32,7 @@ returns c =
     let tested = c.before in
     let start = tested.before.before.before in
     let outside = sym tested.before.is-side.ensures ∙ not-true tested.before.is-side.result tested.if1.true in
-    choose-refuses start.requires start.args.way start.args.side start.args.table.now (outside-first start.args.way start.args.side start.args.plan.count (length start.args.table.now) outside) c.refuse.ensures
+    choose-refuses start.requires start.args.way start.args.side start.args.table.now (outside-first start.args.side start.args.plan.count (length start.args.table.now) outside) c.refuse.ensures
 
 unready-requires : tie.Need-unready-requires
 unready-requires c κs =
@@ -51,7 +50,7 @@ returns-2 c =
     let call = known.before.before in
     let start = call.before.before.before.before in
     choose-refuses start.requires start.args.way start.args.side start.args.table.now
-    (given-first start.args.way start.args.side start.args.plan.count (length start.args.table.now) (given call.before) (outcome-refused _ (sym call.unready.ensures ∙ known.failed.given.1)))
+    (given-first start.args.side start.args.plan.count (length start.args.table.now) (given call.before) (outcome-refused _ (sym call.unready.ensures ∙ known.failed.given.1)))
     c.refuse2.ensures
 
 enum_told : tie.Need-enum-told
@@ -62,7 +61,7 @@ choose-corners-requires c κs =
     let told = c.before.before in
     let call = told.before.before in
     let start = call.before.before.before.before in (
-      holding-ready (valid-holding start.requires) start.args.way start.args.table.now (outcome-done _ (sym call.unready.ensures ∙ told.enum_told.given.1)),
+      holding-ready (valid-holding start.requires) start.args.table.now (outcome-done _ (sym call.unready.ensures ∙ told.enum_told.given.1)),
       (judged-range start.args.side (given call.before)).1,
     )
 
@@ -82,7 +81,7 @@ returns-3 c =
     let none_good = sym (holding-exists holding start.args.way start.args.side _ chosen.choose-corners.ensures.0)
     ∙ not-true chosen.choose-corners.result.exists c.before.if2.true in
     choose-none start.requires start.args.way start.args.side start.args.table.now
-    (given-first start.args.way start.args.side start.args.plan.count (length start.args.table.now) (given call.before) (outcome-done _ (sym call.unready.ensures ∙ told.enum_told.given.1)))
+    (given-first start.args.side start.args.plan.count (length start.args.table.now) (given call.before) (outcome-done _ (sym call.unready.ensures ∙ told.enum_told.given.1)))
     chosen.choose-corners.ensures.1 none_good c.refuse3.ensures
 
 placed-at-requires : tie.Need-placed-at-requires
@@ -102,8 +101,8 @@ returns-4 c =
     let there = sym (holding-exists holding start.args.way start.args.side _ chosen.choose-corners.ensures.0)
     ∙ not-false chosen.choose-corners.result.exists c.before.before.if2.false in
     choose-accepts start.requires start.args.way start.args.side start.args.table.now
-    (given-first start.args.way start.args.side start.args.plan.count (length start.args.table.now) (given call.before) ready)
-    chosen.choose-corners.ensures.1 there (given call.before) (ready-takes start.args.way start.args.plan.count (length start.args.table.now) ready)
+    (given-first start.args.side start.args.plan.count (length start.args.table.now) (given call.before) ready)
+    chosen.choose-corners.ensures.1 there (given call.before) (holding-ready holding start.args.table.now ready).some_sites
     (ap {B = Planned} (λ (p : Plan). record { outcome = Done; plan = p })
     (holding-placed holding start.args.way start.args.side chosen.choose-corners.result chosen.choose-corners.ensures.0 c.list_is_placed_at.ensures))
 

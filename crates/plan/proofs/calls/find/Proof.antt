@@ -32,7 +32,7 @@ find-side-requires c κs =
     let told = c.before.before in
     let call = told.before.before in
     let start = call.before.before in
-    holding-ready (valid-holding start.requires) start.args.way start.args.table.now (outcome-done _ (sym call.unready.ensures ∙ told.enum_told.given.1))
+    holding-ready (valid-holding start.requires) start.args.table.now (outcome-done _ (sym call.unready.ensures ∙ told.enum_told.given.1))
 
 same_length : tie.Need-same-length
 same_length c = search rules

@@ -21,7 +21,7 @@ unfolding placed_with
 put-planned-requires c κs =
     let placed = c.before in
     let args = placed.before.before.args in
-    handed-put (placed_plan args.way) started (to_place args.way (read_list args.text.now))
+    handed-put (placed_plan args.way) started (to_place (read_list args.text.now))
     placed.place-list.ensures.0 placed.place-list.ensures.1.0 (λ sites. refl) (search rules)
 
 returns : tie.Need-returns

@@ -21,7 +21,7 @@ unfolding placed_with
 put-planned-requires c κs =
     let placed = c.before in
     let args = placed.before.before.args in
-    handed-put (placed_at args.way args.side) started (to_place_at args.way args.side (exists_at args.way args.side) (read_list args.text.now))
+    handed-put (placed_at args.way args.side) started (to_place_at args.side (exists_at args.way args.side) (read_list args.text.now))
     placed.place-list-at.ensures.0 placed.place-list-at.ensures.1.0 (λ sites. refl) (search rules)
 
 returns : tie.Need-returns

@@ -1,16 +1,14 @@
 -- `plan::output::place_list` meets its contract: the list is refused, or its plan is placed at the side found, with a table that is enough
 -- for every plan. Assumes nothing.
-use mathlib.Core.Path.{◌≡◌, sym, ap, ◌∙◌, subst}
+use mathlib.Core.Path.{◌≡◌, sym, ◌∙◌, subst}
 use mathlib.Core.List.{List}
 use Prim.Native.Nat.{ℕ}
 use native.Mathlib.Omega.{arith}
 use lib.ListN.{length, replicate, length-replicate}
-use Rattle.plan.specs.declared.plan.Plan.{Plan}
 use Rattle.plan.specs.declared.plan.Planned.{Planned}
 use Rattle.plan.specs.calls.Lengths.{full_table}
 use Rattle.plan.specs.calls.Plan.{Valid}
 use Rattle.plan.specs.theorems.Output.{list-told}
-use Rattle.plan.specs.code.CallLaws.{refusal-of}
 use Rattle.plan.specs.code.Filling.{reading-refused, reading-unfound, reading-placed}
 use borrow.Author.Rules.{rules}
 use Rattle.plan.proofs.output.place_list.Statement.{statement}
@@ -57,9 +55,6 @@ choose-at-requires c κs = search rules
 enum-known-found-2 : tie.Need-enum-known-found-2
 enum-known-found-2 c = search rules
 
-start-requires : tie.Need-start-requires
-start-requires c κs = search rules
-
 refuse-requires : tie.Need-refuse-requires
 refuse-requires c κs = search rules
 
@@ -78,17 +73,16 @@ returns-2 c =
 
 returns-3 : tie.Need-returns-3
 returns-3 c =
-    let started = c.before in
-    let known = started.before.before in
+    let known = c.before.before in
     let found = known.before.before.before in
     let told = found.before.before.before in
     let listed = told.before.before in
     let args = listed.before.before.args in
     let text = args.text.now in
-    let refused = c.refuse.ensures ∙ ap (λ (p : Plan). refusal-of p known.found2.given.0.0) started.start.ensures.0
+    let refused = c.refuse.ensures
     ∙ reading-unfound args.way text lent lent-size
     listed.read.ensures.0 told.enum-told2.given.1 (sym known.found2.given.1 ∙ found.find.ensures.0) in
-    (refused, (subst (λ (p : Planned). Valid p.plan) (sym c.refuse.ensures) started.start.ensures.1, list-told args.way text refused))
+    (refused, (subst (λ (p : Planned). Valid p.plan) (sym c.refuse.ensures) listed.read.ensures.1.0, list-told args.way text refused))
 
 pub place-list-spec : {M : Type 1} → statement M
 place-list-spec =
@@ -104,7 +98,6 @@ place-list-spec =
     slice-aggregate-choose-at
     choose-at-requires
     enum-known-found-2
-    start-requires
     refuse-requires
     returns-2
     returns-3)

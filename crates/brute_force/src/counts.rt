@@ -3,7 +3,7 @@ use crate::sites::FREE;
 use placing::way::Way;
 
 // By one way.
-#[derive(Drop)]
+#[derive(Clone, Copy)]
 pub struct Counts {
     pub lists: u64,
     pub free: u64,
@@ -32,7 +32,7 @@ impl Counts {
 
 // By each way. By the usual one also how many lists are in one straight row and have a choice over twice their side; above the spot, how
 // many have a smaller, the same and a greater side than by the usual way, free being the greatest.
-#[derive(Drop)]
+#[derive(Clone, Copy)]
 pub struct Tally {
     pub usual: Counts,
     pub in_one_row: u64,

@@ -15,14 +15,14 @@ const POWERS_OF_4: [u64; 8] = [1, 4, 16, 64, 256, 1_024, 4_096, 16_384];
 const POWERS_OF_2: [u64; 8] = [1, 2, 4, 8, 16, 32, 64, 128];
 
 // Which lists of corners are good: of corners 1 to `last`, with no two labels that meet and, where crowding counts, no crowded corner.
-#[derive(Drop)]
+#[derive(Clone, Copy)]
 struct Rules {
     last: u64,
     crowding: bool,
 }
 
 // A list of corners and its limit.
-#[derive(Drop)]
+#[derive(Clone, Copy)]
 struct Choice {
     limit: u64,
     corners: [u8; 7],

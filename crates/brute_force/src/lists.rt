@@ -8,7 +8,7 @@ use crate::sites::{Place, Sites, taken};
 const DRAWS: u32 = 40;
 
 // How the places of one list lie.
-#[derive(Drop)]
+#[derive(Clone, Copy)]
 enum Shape {
     Scattered,
     Row,
@@ -20,7 +20,7 @@ enum Shape {
 
 // What the places of one list have in common: coordinates from 0 to `last`, and two points. A row or a column goes through the
 // first point; the sites of clusters lie at most two units right and up of one of the points.
-#[derive(Drop)]
+#[derive(Clone, Copy)]
 struct Frame {
     shape: Shape,
     last: u32,

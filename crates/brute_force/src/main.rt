@@ -1,5 +1,7 @@
 // Random small lists, each answered by the product and by enumeration, both ways, at the side found and at given sides. The sheets are
 // compared, and the counts printed; then the same with answers that are meant to come out wrong.
+#![tactic(auto)]
+
 mod counts;
 mod enumerate;
 mod given;

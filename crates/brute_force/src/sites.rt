@@ -1,14 +1,14 @@
 // A small list of sites, without their names, and an answer to it.
 ghost use Rattle.std.specs.Prelude.{◌≤◌};
 
-#[derive(Drop)]
+#[derive(Clone, Copy)]
 pub struct Place {
     pub x: u32,
     pub y: u32,
 }
 
 // The first `n` of these places.
-#[derive(Drop)]
+#[derive(Clone, Copy)]
 pub struct Sites {
     pub n: usize,
     pub places: [Place; 7],
@@ -18,7 +18,7 @@ pub struct Sites {
 pub const FREE: u64 = 20_001;
 
 // A side from 1 to 20,000 or FREE, and a corner for each site; corners of 0 where no choice is good at the side.
-#[derive(Drop)]
+#[derive(Clone, Copy)]
 pub struct Answer {
     pub side: u64,
     pub corners: [u8; 7],

@@ -1,11 +1,13 @@
 // What the programs at the desk share: the words behind their names, and telling on standard error.
+#![tactic(auto)]
+
 ghost use Rattle.desk.specs.Words.{Counted};
 
 use libc::STDERR_FILENO;
 
 // A word, from the front. One that does not fit is longer than every word that a program knows, and counts as none; but its first bytes
 // stand there.
-#[derive(Drop)]
+#[derive(Clone, Copy)]
 pub struct Word {
     pub bytes: [u8; 8],
     pub len: usize,

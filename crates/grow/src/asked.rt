@@ -9,7 +9,7 @@ use placing::units::{Limits, Place, Units};
 use plan::number::{Coordinate, coordinate_from};
 
 // The words of a label.
-#[derive(Drop)]
+#[derive(Clone, Copy)]
 pub(crate) struct LabelWords {
     pub x: Word,
     pub y: Word,

@@ -1,5 +1,7 @@
 // How far two labels grow: x, y and corner of one, then of the other, as six words. The number of half units, `never` or the refusal on
 // standard output.
+#![tactic(auto)]
+
 mod asked;
 mod explain;
 mod text;

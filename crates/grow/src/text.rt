@@ -8,7 +8,7 @@ use placing::units::Growth;
 use plan::refusal::number_of;
 
 // The first `len` bytes are the text.
-#[derive(Drop)]
+#[derive(Clone, Copy)]
 pub(crate) struct Text {
     pub bytes: [u8; 20],
     pub len: usize,

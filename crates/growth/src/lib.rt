@@ -1,4 +1,6 @@
 // How far two labels grow, asked with any numbers: document 02, L3.
+#![tactic(auto)]
+
 ghost use Rattle.std.specs.Prelude.{◌≡◌};
 ghost use Rattle.placing.specs.rules.Growth.{growth_number};
 ghost use Rattle.placing.specs.deciding.Growth.{growth_of};
@@ -11,7 +13,7 @@ use placing::units::{Growth, Limits, Place};
 use plan::refusal::Refusal;
 
 // What comes of asking how far two labels grow.
-#[derive(Drop)]
+#[derive(Clone, Copy)]
 pub enum AskedGrowth {
     GrowthIs(Growth),
     NoGrowth(Refusal),

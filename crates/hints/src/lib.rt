@@ -1,4 +1,6 @@
 // Where and why a list is refused: the line, the refusal, and a hint where a common cause shows in the bytes of that line.
+#![tactic(auto)]
+
 ghost use Rattle.std.specs.Prelude.{◌≡◌, length};
 ghost use Rattle.plan.specs.deciding.Reading.{cut_line};
 ghost use Rattle.hints.specs.Explained.{Explained};
@@ -10,7 +12,7 @@ use plan::list::{Stop, refused_line};
 use plan::refusal::Refusal;
 
 // The causes, in the order in which they are looked for; the last says that none shows.
-#[derive(Drop)]
+#[derive(Clone, Copy)]
 pub enum Hint {
     ByteOrderMark,
     Empty,
@@ -26,7 +28,7 @@ pub enum Hint {
 }
 
 // What is told of a list: the line at which it is refused, counted from 1, the refusal and the hint; or no line, where each is accepted.
-#[derive(Drop)]
+#[derive(Clone, Copy)]
 pub enum Explanation {
     Line(usize, Refusal, Hint),
     NoLine,

@@ -19,7 +19,7 @@ use plan::sheet::write;
 use test_text::{put_bytes, within};
 
 // The plan, how many bytes were lent last, and how many bytes the answer has.
-#[derive(Drop)]
+#[derive(Clone, Copy)]
 pub struct State {
     pub plan: Plan,
     pub lent: usize,

@@ -10,7 +10,7 @@ use std::num::wrapping_add_u64;
 use test_text::within;
 
 // How many cases were asked, and how many came right. A count would wrap only past 2^64 cases.
-#[derive(Drop)]
+#[derive(Clone, Copy)]
 struct Tally {
     asked: u64,
     right: u64,
@@ -44,7 +44,7 @@ fn print_tally(tally: Tally) {
 }
 
 // How far the cases are: the plan that they act on, and the tally.
-#[derive(Drop)]
+#[derive(Clone, Copy)]
 struct Course {
     state: State,
     tally: Tally,

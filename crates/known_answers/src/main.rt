@@ -1,6 +1,8 @@
 // Known answers: each line of the standard input that has a `=` is a question to the public calls, and behind the `=` stands what the
 // answer should be. The program prints each question with the answer that came, and whether it is the one; other lines it prints as
 // they are. The questions are asked of one plan, one after another.
+#![tactic(auto)]
+
 mod answers;
 mod calls;
 mod cases;

@@ -6,7 +6,7 @@
 use crate::words::{are_numbers, first, from, number_in, unquoted};
 use placing::way::Way;
 
-#[derive(Drop)]
+#[derive(Clone, Copy)]
 pub enum Call {
     Enter,
     Read,
@@ -27,7 +27,7 @@ pub enum Call {
 }
 
 // The text stands in an array beside it.
-#[derive(Drop)]
+#[derive(Clone, Copy)]
 pub struct Question {
     pub way: Way,
     pub call: Call,

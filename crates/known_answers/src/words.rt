@@ -81,7 +81,7 @@ fn escaped(byte: u8) -> u8 {
 }
 
 // How many bytes of a quoted text were put into an array, and whether the last byte read was a backslash.
-#[derive(Drop)]
+#[derive(Clone, Copy)]
 struct Spelt {
     n: usize,
     behind: bool,

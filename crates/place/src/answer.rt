@@ -14,7 +14,7 @@ use plan::limits::TextLimits;
 use plan::output::{output, output_at};
 
 // What one read did: it brought so many bytes, or found the end of the input, or failed.
-#[derive(Drop)]
+#[derive(Clone, Copy)]
 enum Step {
     Got(usize),
     Ended,
@@ -22,14 +22,14 @@ enum Step {
 }
 
 // How far reading came: how many bytes stand in the room, and what the last read did. Before the first read that is `Got(0)`.
-#[derive(Drop)]
+#[derive(Clone, Copy)]
 struct Reading {
     at: usize,
     last: Step,
 }
 
 // What came of reading the input: an output of so many bytes, or none, since a read failed.
-#[derive(Drop)]
+#[derive(Clone, Copy)]
 enum Answer {
     Output(Reading, usize),
     Unread(Reading),

@@ -10,21 +10,21 @@ use plan::name::same_bytes;
 use plan::number::side_from;
 
 // At which side the list is placed: the one that is found, or a given one.
-#[derive(Drop)]
+#[derive(Clone, Copy)]
 pub(crate) enum At {
     Found,
     Given(Side),
 }
 
 // How a list is placed.
-#[derive(Drop)]
+#[derive(Clone, Copy)]
 pub(crate) struct How {
     pub way: Way,
     pub at: At,
 }
 
 // To place a list, or to tell how that is done.
-#[derive(Drop)]
+#[derive(Clone, Copy)]
 pub(crate) enum Task {
     Place(How),
     Usage,

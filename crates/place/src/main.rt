@@ -1,5 +1,7 @@
 // The placing program: a list on standard input, its sheet or its refusal on standard output; by the way and at the side that its
 // arguments give.
+#![tactic(auto)]
+
 mod answer;
 mod asked;
 mod explain;

@@ -2,7 +2,7 @@
 -- Assumes nothing.
 use Rattle.std.specs.Prelude.{◌≡◌, ◌≢◌, Bool, true, false, List, ℕ, ◌+◌, ◌*◌, ◌≤◌, ◌<◌, length, take}
 use Rattle.std.proofs.Common.{sym, ap, subst, not-suc-le-zero, mul-le-mul_right, arith, below_more, get_or-take, length-take-le}
-use Rattle.std.proofs.Math.Logic.{Ne·symm}
+use Rattle.std.proofs.Math.Logic.{Ne-symm}
 use Rattle.std.proofs.lemmas.Bool.{false≢true}
 use Rattle.std.proofs.Math.Decide.{dec_lt}
 use Rattle.placing.specs.declared.units.Place.{Place}
@@ -84,7 +84,7 @@ module _ {n : ℕ} {sites : List Place} (enough : n ≤ length sites) (fresh : F
   -- So are any two.
   either-apart : (i j : ℕ) → i < n → j < n → i ≢ j → Dec (i < j) → site_at (take n sites) i ≢ site_at (take n sites) j
   either-apart i j below other differ (yes before) = later-apart i j before other
-  either-apart i j below other differ (no after) = Ne·symm (later-apart j i (omega arith) below)
+  either-apart i j below other differ (no after) = Ne-symm (later-apart j i (omega arith) below)
 
   -- Sites that are all fresh may be placed.
   pub fresh-ready : 1 ≤ n → n ≤ 240 → Ready n sites

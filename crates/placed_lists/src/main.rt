@@ -1,6 +1,8 @@
 // Places document 01's lists that are marked P, and some at the limits, and prints a line for each: the side, then the corners
 // of the first sites. Then some at given sides, the last of them too large. Then lists above the spot, document 02, L2, at the side found
 // and at given ones. The last list is wrong, and that is to be noticed: two of its sites stand at one place.
+#![tactic(auto)]
+
 mod lists;
 mod print;
 mod ready;

@@ -17,14 +17,14 @@ use crate::units::{HalfUnits, Limits};
 use crate::way::Way;
 
 // Whether a good choice exists at a side, and the first one: the corner of each site in list order, 0 past the last and where none exists.
-#[derive(Drop)]
+#[derive(Clone, Copy)]
 pub struct Choice {
     pub exists: bool,
     pub corners: [u8; Limits::SITES],
 }
 
 // The corners of a good choice, where there is one; past the last site they are what the walk left.
-#[derive(Drop)]
+#[derive(Clone, Copy)]
 pub(crate) struct Chosen {
     pub ok: bool,
     pub corners: [u8; Limits::SITES],

@@ -4,13 +4,13 @@ ghost use Rattle.placing.specs.rules.Corner.{up_where, directions_of, Corner};
 ghost use Rattle.placing.specs.deciding.Decides.{Decides};
 
 // Which way a label goes from its site: up the axis (to the right, upwards) or down it.
-#[derive(Drop)]
+#[derive(Clone, Copy)]
 pub(crate) enum Direction {
     Up,
     Down,
 }
 
-#[derive(Drop)]
+#[derive(Clone, Copy)]
 pub(crate) struct Directions {
     pub x: Direction,
     pub y: Direction,

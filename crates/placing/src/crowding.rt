@@ -19,7 +19,7 @@ use crate::way::Way;
 // The reach of each corner of each site, in half units, in the places of `Limits::ALL_CORNERS`; and the top: no side above it, up to the
 // one that was asked, leaves every site a corner. For sides up to the top, a corner may be chosen where the doubled side is within its
 // reach.
-#[derive(Drop)]
+#[derive(Clone, Copy)]
 pub(crate) struct Crowding {
     pub reaches: [u32; Limits::ALL_CORNERS],
     pub top: HalfUnits,

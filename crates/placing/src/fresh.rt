@@ -8,7 +8,7 @@ use crate::crowding::Crowding;
 use crate::units::{HalfUnits, Limits};
 
 // Which corners are open and which is decided, for every site.
-#[derive(Drop)]
+#[derive(Clone, Copy)]
 pub(crate) struct State {
     pub opens: [u8; Limits::ALL_CORNERS],
     pub decided: [u8; Limits::SITES],

@@ -88,7 +88,7 @@ fn further(x: Growth, y: Growth) -> Growth
 
 // The label of a site: where the site stands, and the directions in which the label goes from it. A caller who looks at many labels of a
 // corner finds that corner's directions once.
-#[derive(Drop)]
+#[derive(Clone, Copy)]
 pub(crate) struct Label {
     pub site: Place,
     pub toward: Directions,

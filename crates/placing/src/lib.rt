@@ -1,4 +1,6 @@
 // Square labels for sites: what the documents rule of corners, meeting, crowding, sides and ways. Nothing here knows names or text.
+#![tactic(auto)]
+
 pub mod choice;
 pub mod corner;
 pub mod crowding;

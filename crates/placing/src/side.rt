@@ -14,7 +14,7 @@ use crate::way::Way;
 
 // Two sides: `low` has a good choice, and no judged side from `high` on has one. `next`, below `high`, is to be tried next; it is
 // above `low` while a side is left to try.
-#[derive(Drop)]
+#[derive(Clone, Copy)]
 struct Between {
     low: HalfUnits,
     high: HalfUnits,

@@ -9,7 +9,7 @@ ghost use Rattle.placing.specs.code.Sites.{CoordinatesOf, place_at};
 use crate::units::{Limits, Place, Units};
 
 // The places of a list.
-#[derive(Drop)]
+#[derive(Clone, Copy)]
 pub(crate) struct Coordinates {
     pub xs: [u32; Limits::SITES],
     pub ys: [u32; Limits::SITES],

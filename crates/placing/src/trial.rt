@@ -22,7 +22,7 @@ use crate::units::{HalfUnits, Limits};
 use crate::way::Way;
 
 // Which corners of a site are open: nothing, one, or more.
-#[derive(Drop)]
+#[derive(Clone, Copy)]
 pub(crate) enum Left {
     Nothing,
     One(u8),

@@ -7,29 +7,29 @@ ghost use Rattle.placing.specs.deciding.Decides.{Decides};
 ghost use Rattle.placing.specs.rules.Growth.{Exceeds};
 
 // A coordinate, or a distance between two, in units.
-#[derive(Drop)]
+#[derive(Clone, Copy)]
 pub struct Units(pub u32);
 
 // A side, or a distance, in half units.
-#[derive(Drop)]
+#[derive(Clone, Copy)]
 pub struct HalfUnits(pub u32);
 
 // Where a site lies: x grows to the right, y grows upwards.
-#[derive(Drop)]
+#[derive(Clone, Copy)]
 pub struct Place {
     pub x: Units,
     pub y: Units,
 }
 
 // A side, found or given: a whole number of half units, or free, where no side is too large.
-#[derive(Drop)]
+#[derive(Clone, Copy)]
 pub enum Side {
     Number(HalfUnits),
     Free,
 }
 
 // How far two labels grow: up to a side, the greatest at which they do not meet; or they never meet.
-#[derive(Drop)]
+#[derive(Clone, Copy)]
 pub enum Growth {
     UpTo(HalfUnits),
     Never,
@@ -46,7 +46,7 @@ pub(crate) fn judged_at(side: Side) -> HalfUnits
 }
 
 // The limits of document 01, "Units and limits".
-#[derive(Drop)]
+#[derive(Clone, Copy)]
 pub struct Limits();
 
 impl Limits {

@@ -1,4 +1,6 @@
 // Names, lists, plans and sheets: the calls of document 01 over what crate `placing` promises.
+#![tactic(auto)]
+
 pub mod calls;
 pub mod limits;
 pub mod list;

@@ -3,7 +3,7 @@ use crate::name::Name;
 use placing::units::Limits;
 
 // The limits of lists and sheets, from those of document 01.
-#[derive(Drop)]
+#[derive(Clone, Copy)]
 pub struct TextLimits();
 
 impl TextLimits {

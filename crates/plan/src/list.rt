@@ -16,14 +16,14 @@ use crate::plan::{Plan, Planned, enter_outcome, refuse};
 use crate::refusal::{Outcome, Refusal};
 
 // Where a line ends: the place of its line feed, if it has one in time.
-#[derive(Drop)]
+#[derive(Clone, Copy)]
 pub(crate) enum LineEnd {
     At(usize),
     Missing,
 }
 
 // What is read of a line: whether it has three fields, and the name and the place that they write.
-#[derive(Drop)]
+#[derive(Clone, Copy)]
 pub(crate) struct LineRead {
     pub three: bool,
     pub name: NameRead,
@@ -32,7 +32,7 @@ pub(crate) struct LineRead {
 
 // What reading line after line hands back: the answer of the last one, the plan of those accepted, and where a refused line starts, else
 // the text's end.
-#[derive(Drop)]
+#[derive(Clone, Copy)]
 pub(crate) struct LinesRead {
     pub outcome: Outcome,
     pub plan: Plan,
@@ -40,7 +40,7 @@ pub(crate) struct LinesRead {
 }
 
 // The line at which reading a list stops: its number, counted from 1, where it starts, and why it is refused.
-#[derive(Drop)]
+#[derive(Clone, Copy)]
 pub struct RefusedLine {
     pub number: usize,
     pub at: usize,
@@ -48,7 +48,7 @@ pub struct RefusedLine {
 }
 
 // Where reading a list stops: at a line that is refused, or nowhere, since every line is accepted.
-#[derive(Drop)]
+#[derive(Clone, Copy)]
 pub enum Stop {
     AtLine(RefusedLine),
     Nowhere,

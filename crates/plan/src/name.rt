@@ -7,14 +7,14 @@ ghost use Rattle.plan.specs.code.NameRead.{Padded, name_read, no_name, no_read};
 use crate::put::put_bytes;
 
 // The bytes of a name from the front, zeros past them.
-#[derive(Drop)]
+#[derive(Clone, Copy)]
 pub struct Name {
     pub bytes: [u8; Name::LONGEST],
     pub len: usize,
 }
 
 // A name, where the bytes read are one; else a name of no bytes.
-#[derive(Drop)]
+#[derive(Clone, Copy)]
 pub(crate) struct NameRead {
     pub ok: bool,
     pub name: Name,

@@ -16,21 +16,21 @@ use placing::units::{HalfUnits, Limits, Place, Side, Units};
 pub(crate) const ZERO: u32 = b'0' as u32;
 
 // A number, where the text writes one in range.
-#[derive(Drop)]
+#[derive(Clone, Copy)]
 enum NumberRead {
     Is(u32),
     NoNumber,
 }
 
 // A coordinate, where the text is one.
-#[derive(Drop)]
+#[derive(Clone, Copy)]
 pub enum Coordinate {
     At(Units),
     Nowhere,
 }
 
 // A place, where both its coordinates are there; else the place 0, 0.
-#[derive(Drop)]
+#[derive(Clone, Copy)]
 pub(crate) struct PlaceRead {
     pub ok: bool,
     pub place: Place,

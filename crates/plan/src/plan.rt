@@ -19,7 +19,7 @@ use placing::way::Way;
 
 // Slots past the count hold nothing: a name of no bytes, the place 0, 0 and corner 0. While a plan is not placed, its way is the
 // usual one, its side is free and its corners are 0.
-#[derive(Drop)]
+#[derive(Clone, Copy)]
 pub struct Plan {
     pub count: usize,
     pub names: [Name; Limits::SITES],
@@ -31,28 +31,28 @@ pub struct Plan {
 }
 
 // What entering, reading and choosing hand back: the answer, and the plan afterwards.
-#[derive(Drop)]
+#[derive(Clone, Copy)]
 pub struct Planned {
     pub outcome: Outcome,
     pub plan: Plan,
 }
 
 // The answer when the side is asked or found.
-#[derive(Drop)]
+#[derive(Clone, Copy)]
 pub enum AskedSide {
     SideIs(Side),
     NoSide(Refusal),
 }
 
 // The answer when a corner is asked.
-#[derive(Drop)]
+#[derive(Clone, Copy)]
 pub enum AskedCorner {
     CornerIs(u8),
     NoCorner(Refusal),
 }
 
 // The answer of writing: how many bytes were written.
-#[derive(Drop)]
+#[derive(Clone, Copy)]
 pub enum Written {
     Bytes(usize),
     NotWritten(Refusal),

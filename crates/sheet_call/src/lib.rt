@@ -1,6 +1,8 @@
 // For callers in C and Rust: from the bytes of a list to the bytes of its sheet in one call, by a way of placing, at the side found or at
 // a given side.
 // A third call tells how far two labels grow. `callers/lemoncanyon.h` declares the calls.
+#![tactic(auto)]
+
 mod growing;
 
 ghost use Rattle.std.specs.Prelude.{◌≡◌};
@@ -34,7 +36,7 @@ const USUAL: u32 = 1;
 const ABOVE: u32 = 2;
 
 // What a number given as a way stands for.
-#[derive(Drop)]
+#[derive(Clone, Copy)]
 enum GivenWay {
     By(Way),
     NoWay,

@@ -1,4 +1,6 @@
 // Text that the test programs put into arrays, as much of it as there is room for.
+#![tactic(auto)]
+
 ghost use Rattle.std.specs.Prelude.{◌≤◌, length};
 ghost use Rattle.io.specs.Counts.{IsPrefixLen};
 

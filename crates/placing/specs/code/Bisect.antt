@@ -15,7 +15,7 @@ use Rattle.placing.specs.rules.Units.{Distinct, free_side}
 use Rattle.placing.specs.rules.Choice.{Good, SomeGood}
 use Rattle.placing.specs.deciding.Answer.{answer_of, first_good}
 use Rattle.placing.specs.theorems.Choice.{good-smaller, good-one-exists}
-use Rattle.placing.specs.theorems.Answer.{firstGood-some, firstGood-none, side-found, side-free}
+use Rattle.placing.specs.theorems.Answer.{first_good-some, first_good-none, side-found, side-free}
 use Rattle.placing.specs.code.Sites.{Held, sites_of}
 use Rattle.placing.specs.code.Crowding.{judged_free, NoneFrom, CrowdingIs}
 use Rattle.placing.specs.code.Chosen.{where_yes, choice_in}
@@ -82,7 +82,7 @@ module _ {way : Way} {ps : List Place} (n : ℕ) {top : ℕ} {between : Between}
           most = is-between.most;
           some_good = record {
             choice = take n chosen.corners;
-            good = (firstGood-some (sym is ∙ ap (λ (b : Bool). where_yes b (take n chosen.corners)) ok)).good;
+            good = (first_good-some (sym is ∙ ap (λ (b : Bool). where_yes b (take n chosen.corners)) ok)).good;
           };
           none_good_from_high = is-between.none_good_from_high;
           next_is = next_is;
@@ -107,7 +107,7 @@ module _ {way : Way} {ps : List Place} (n : ℕ) {top : ℕ} {between : Between}
       }
     where
       none : (es : List ℕ) → Good way between.next.0 ps es → ⊥
-      none = firstGood-none (sym is ∙ ap (λ (b : Bool). where_yes b (take n chosen.corners)) failed)
+      none = first_good-none (sym is ∙ ap (λ (b : Bool). where_yes b (take n chosen.corners)) failed)
 
 -- The side of an answer, by the greatest judged side that has a good choice: free at the side at which free is judged.
 pub record SideIs (greatest : HalfUnits) (side : Side) : Type 0 where

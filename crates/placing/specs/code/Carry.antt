@@ -3,7 +3,7 @@
 use Rattle.std.specs.Prelude.{◌≡◌, refl, Bool, true, false, List, ◌≢◌, ◌⊎◌, ℕ, ◌+◌, ◌-◌, ◌*◌, ◌≤◌, ◌<◌, length, get_or, set}
 use Rattle.std.proofs.Common.{sym, ap, ◌∙◌, true≢false, inl, inr, ⊎_elim, lt_of_lt_of_le, arith, length-set, get_or-set_same, get_or-set_other}
 use Rattle.std.proofs.Math.Path.{fun_ext}
-use Rattle.std.proofs.Math.Logic.{Ne·symm}
+use Rattle.std.proofs.Math.Logic.{Ne-symm}
 use Rattle.std.proofs.Math.Decide.{ℕ_discrete}
 use Rattle.placing.specs.declared.corner.Directions.{Directions}
 use Rattle.placing.specs.declared.geometry.Label.{Label}
@@ -127,8 +127,8 @@ module _ (P : Problem) (opens decided : List ℕ) (k j : ℕ) (settled : Settled
         sizes = closed.sizes;
         elsewhere = closed.elsewhere;
         decided_elsewhere = closed.decided_elsewhere;
-        own = closed.elsewhere k (Ne·symm different);
-        own_decided = closed.decided_elsewhere k (Ne·symm different);
+        own = closed.elsewhere k (Ne-symm different);
+        own_decided = closed.decided_elsewhere k (Ne-symm different);
         carried = λ yes-ok other. carried (closed.some_left yes-ok);
         stuck_other = λ no_Ok. different;
         stuck = λ no_Ok e was. ⊎_elim (λ still. absurd ((closed.none_left no_Ok).none_open e still)) (λ x. x) (keeps e was);

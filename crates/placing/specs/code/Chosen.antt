@@ -12,7 +12,7 @@ use Rattle.placing.specs.rules.Choice.{First}
 use Rattle.placing.specs.deciding.Answer.{first_good}
 use Rattle.placing.specs.calls.Placing.{choice_as}
 use Rattle.placing.specs.theorems.Choice.{first-at-one}
-use Rattle.placing.specs.theorems.Answer.{NoneGood, firstGood-some, firstGood-none, first_found, none_found}
+use Rattle.placing.specs.theorems.Answer.{NoneGood, first_good-some, first_good-none, first_found, none_found}
 use Rattle.placing.specs.code.Sites.{sites_of}
 use Rattle.placing.specs.search.State.{Walked}
 use Rattle.placing.specs.search.Decided.{walk-solution, walk-none-before}
@@ -62,7 +62,7 @@ module _ (way : Way) (h : ℕ) (ps : List Place) where
   choice-is : {n : ℕ} {cs first : List ℕ} → length ps ≡ n → first_good way h ps ≡ some cs → first ≡ cs ++ replicate (most_sites - n) 0
       → record { exists = true; corners = first } ≡ choice_as (first_good way h ps)
   choice-is {n} {cs} count made held =
-      let size : length cs ≡ n = (firstGood-some made).good.corners.one_each ∙ count in
+      let size : length cs ≡ n = (first_good-some made).good.corners.one_each ∙ count in
       ap {B = Choice} (λ (l : List ℕ). record { exists = true; corners = l })
       (held ∙ ap (λ (k : ℕ). cs ++ replicate (most_sites - k) 0) (sym size))
       ∙ sym (ap choice_as made)

@@ -5,7 +5,7 @@
 -- Assumes nothing.
 use Rattle.std.specs.Prelude.{◌≡◌, List, ◌≢◌, ◌⊎◌, ℕ, ◌≤◌, ◌<◌, length}
 use Rattle.std.proofs.Common.{sym, ◌∙◌, arith}
-use Rattle.std.proofs.Math.Logic.{Ne·symm, ⊎_map}
+use Rattle.std.proofs.Math.Logic.{Ne-symm, ⊎_map}
 use Rattle.placing.specs.declared.units.Place.{Place}
 use Rattle.placing.specs.declared.way.Way.{Way}
 use Rattle.placing.specs.declared.way.Way.TheVariants.{Usual, Above}
@@ -106,7 +106,7 @@ pub met_looked : (way : Way) (h n : ℕ) (xs ys : List ℕ) {k j c e : ℕ} → 
 met_looked Usual h n xs ys {k} {j} listed other different own beside meets =
     equal
     (sym
-    (same-corner h (sites_of n xs ys) (rw length-sites listed) (rw length-sites other) (Ne·symm different)
+    (same-corner h (sites_of n xs ys) (rw length-sites listed) (rw length-sites other) (Ne-symm different)
     own.corner beside.corner (not-crowded own.allowed) (not-crowded beside.allowed)
     (rw (site-at n xs ys k listed, site-at n xs ys j other) meets)))
 met_looked Above h n xs ys listed other different own beside meets = low (is-upper beside.allowed)

@@ -2,7 +2,7 @@
 -- Assumes nothing.
 use Rattle.std.specs.Prelude.{◌≡◌, refl, List, [], ◌∷◌, ◌≢◌, ◌⊎◌, ℕ, zero, suc, ◌<◌, length}
 use Rattle.std.proofs.Common.{sym, ap, inl, inr, zero-le, suc-le-suc, le_of_suc-le-suc, not-suc-le-zero}
-use Rattle.std.proofs.Math.Logic.{Ne·symm}
+use Rattle.std.proofs.Math.Logic.{Ne-symm}
 use Rattle.std.proofs.Math.Decide.{ℕ_discrete}
 use Rattle.placing.specs.rules.Choice.{corner_at}
 use Rattle.placing.specs.search.Problem.{Problem, Solution, Dead}
@@ -49,7 +49,7 @@ module _ {P : Problem} {opens decided cs : List ℕ} (closed : Closed P opens de
   -- A decided corner is safe.
   decided-safe : (i : ℕ) → i < P.n → corner_at decided i ≢ 0 → Safe P opens i (corner_at decided i)
   decided-safe i listed d =
-      record { meets_no_open = λ j e other different o. closed.apart i j e listed other (Ne·symm different) d o }
+      record { meets_no_open = λ j e other different o. closed.apart i j e listed other (Ne-symm different) d o }
 
   -- Where the corner of cs is closed, of two open corners one is dead.
   replaced : (i : ℕ) → i < P.n → corner_at decided i ≡ 0 → row_of opens i (corner_at cs i) ≢ 1 → TwoOpen opens i

@@ -32,8 +32,8 @@ finds-first-good way h ps =
 
 module _ {way : Way} {h : ℕ} {ps : List Place} where
   -- What it finds is the first good choice,
-  pub firstGood-some : {cs : List ℕ} → first_good way h ps ≡ some cs → First way h ps cs
-  firstGood-some = found_first (finds-first-good way h ps)
+  pub first_good-some : {cs : List ℕ} → first_good way h ps ≡ some cs → First way h ps cs
+  first_good-some = found_first (finds-first-good way h ps)
 
   -- the first good choice is what it finds,
   pub first_found : {cs : List ℕ} → First way h ps cs → first_good way h ps ≡ some cs
@@ -44,8 +44,8 @@ module _ {way : Way} {h : ℕ} {ps : List Place} where
       by-found (missing none_good_from_high) = absurd (none_good_from_high cs first.good)
 
   -- where it finds nothing there is no good choice,
-  pub firstGood-none : first_good way h ps ≡ none → NoneGood way h ps
-  firstGood-none = nothing-found (finds-first-good way h ps)
+  pub first_good-none : first_good way h ps ≡ none → NoneGood way h ps
+  first_good-none = nothing-found (finds-first-good way h ps)
 
   -- and where there is none it finds nothing.
   pub none_found : NoneGood way h ps → first_good way h ps ≡ none

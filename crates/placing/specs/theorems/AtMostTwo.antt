@@ -3,7 +3,7 @@
 -- Assumes nothing.
 use Rattle.std.specs.Prelude.{◌≡◌, refl, List, ◌≢◌, ◌⊎◌, ℕ, ◌+◌, ◌-◌, ◌<◌, length}
 use Rattle.std.proofs.Common.{sym, ap, subst, ◌∙◌, inl, inr, ⊎_elim, le_antisymm, add_left_cancel, arith}
-use Rattle.std.proofs.Math.Logic.{Ne·symm, ⊎_map}
+use Rattle.std.proofs.Math.Logic.{Ne-symm, ⊎_map}
 use Rattle.std.proofs.Math.Decide.{ℕ_discrete}
 use Rattle.placing.specs.declared.units.Place.{Place}
 use Rattle.placing.specs.declared.corner.Direction.{Direction}
@@ -112,7 +112,7 @@ module _ (h : ℕ) (ps : List Place) where
           seen axis = rw (toward-corner direction axis) (sight axis).ahead
 
           not_f : corner_toward direction ≢ f
-          not_f is_f = other (crowded-by i-listed (Ne·symm differ) (λ axis. ⊎_elim (own axis) (λ back. back) (sight axis).own_or_back))
+          not_f is_f = other (crowded-by i-listed (Ne-symm differ) (λ axis. ⊎_elim (own axis) (λ back. back) (sight axis).own_or_back))
             where
               own : (axis : Axis) → direction axis ≡ toward axis (far_from f) → AheadAt j e i axis
               own axis is-own = absurd (far-other-way f axis (sym is-own ∙ sym (toward-corner direction axis) ∙ ap (toward axis) is_f))
@@ -127,7 +127,7 @@ module _ (h : ℕ) (ps : List Place) where
       go : (axis : Axis) → (toward axis c ≡ toward axis e) ⊎ (AheadAt i c j axis × AheadAt j e i axis)
           → AheadAt i c j (across axis) ⊎ AheadAt j e i (across axis) → toward axis c ≡ toward axis e
       go axis (inl same) over = same
-      go axis (inr each) (inl ahead) = absurd (own (crowded-by j-listed (Ne·symm differ) (along-both (AheadAt i c j) axis each.0 ahead)))
+      go axis (inr each) (inl ahead) = absurd (own (crowded-by j-listed (Ne-symm differ) (along-both (AheadAt i c j) axis each.0 ahead)))
       go axis (inr each) (inr back) = absurd (other (crowded-by i-listed differ (along-both (AheadAt j e i) axis each.1 back)))
 
   -- Of three different uncrowded corners of a site one is alone.

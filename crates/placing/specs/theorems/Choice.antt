@@ -2,7 +2,7 @@
 -- Assumes nothing.
 use Rattle.std.specs.Prelude.{◌≡◌, refl, List, [], ◌∷◌, ◌≢◌, ◌⊎◌, ℕ, suc, ◌≤◌, ◌<◌, length, replicate}
 use Rattle.std.proofs.Common.{sym, ◌∙◌, inl, inr, zero-le, suc-le-suc, arith}
-use Rattle.std.proofs.Math.Logic.{Ne·symm}
+use Rattle.std.proofs.Math.Logic.{Ne-symm}
 use Rattle.std.proofs.Math.Decide.{ℕ_discrete, dec_lt}
 use Rattle.std.proofs.lemmas.List.{length-replicate, get_or-replicate}
 use Rattle.placing.specs.declared.units.Place.{Place}
@@ -55,7 +55,7 @@ good-smaller smaller good =
 -- At h = 1 no corner is crowded,
 none-crowded : {ps : List Place} → Distinct ps → (i c : ℕ) → i < length ps → Crowded 1 ps i c → ⊥
 none-crowded places i c listed crowded =
-    places.distinct i crowded.other listed crowded.listed (Ne·symm crowded.different) (doubled-covers-one crowded.covered)
+    places.distinct i crowded.other listed crowded.listed (Ne-symm crowded.different) (doubled-covers-one crowded.covered)
 
 -- every choice of corners that the way allows there is good:
 pub good-at-one : {way : Way} {ps : List Place} {cs : List ℕ} → Distinct ps → Corners (length ps) cs

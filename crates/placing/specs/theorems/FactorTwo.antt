@@ -2,7 +2,7 @@
 -- corners has two labels that meet.
 -- Assumes nothing.
 use Rattle.std.specs.Prelude.{List, ℕ, suc, ◌*◌, ◌≤◌, ◌<◌, length}
-use Rattle.std.proofs.Math.Logic.{Ne·symm}
+use Rattle.std.proofs.Math.Logic.{Ne-symm}
 use Rattle.std.proofs.Common.{arith, mul-le-mul_right}
 use Rattle.placing.specs.declared.units.Place.{Place}
 use Rattle.placing.specs.declared.way.Way.TheVariants.{Usual}
@@ -41,7 +41,7 @@ module _ (h p q : ℕ) (twice : 2 * h * q < p) where
         corners = corners;
         allowed = λ i listed. uncrowded (λ crowded.
             none_meet
-            (meeting-of i crowded.other listed crowded.listed (Ne·symm crowded.different)
+            (meeting-of i crowded.other listed crowded.listed (Ne-symm crowded.different)
             (λ axis. near-overlap (crowded.covered axis))));
         apart = λ pair. none_meet (meeting-larger some-q wide pair);
       }

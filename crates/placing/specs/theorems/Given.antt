@@ -14,7 +14,7 @@ use Rattle.placing.specs.rules.Choice.{SomeGood, First}
 use Rattle.placing.specs.rules.Answer.{Answer, is_side, judged_at, IsAnswer, is_free, is_number, IsChosen}
 use Rattle.placing.specs.deciding.Answer.{first_good, answer_of, is_some, corners_of, chosen_at}
 use Rattle.placing.specs.theorems.Choice.{good-smaller}
-use Rattle.placing.specs.theorems.Answer.{NoneGood, firstGood-some, firstGood-none, first_found, answer-is}
+use Rattle.placing.specs.theorems.Answer.{NoneGood, first_good-some, first_good-none, first_found, answer-is}
 
 -- ---- the range
 
@@ -47,7 +47,7 @@ module _ (way : Way) (ps : List Place) where
     where
       by-search : (o : Option (List ℕ)) → first_good way (judged_at side) ps ≡ o → is_some o ≡ true
           → IsChosen way ps (record { side = side; corners = corners_of o })
-      by-search (some cs) is there = record { given = given; first = firstGood-some is }
+      by-search (some cs) is there = record { given = given; first = first_good-some is }
       by-search none is there = absurd (true≢false (sym there))
 
 -- and nothing else is.
@@ -66,13 +66,13 @@ module _ {way : Way} {ps : List Place} where
     where
       by-search : (o : Option (List ℕ)) → first_good way h ps ≡ o → is_some o ≡ true
       by-search (some cs) is = refl
-      by-search none is = absurd (firstGood-none is some_Good.choice some_Good.good)
+      by-search none is = absurd (first_good-none is some_Good.choice some_Good.good)
 
 pub found_some : (way : Way) (h : ℕ) (ps : List Place) → is_some (first_good way h ps) ≡ true → SomeGood way h ps
 found_some way h ps = by-search (first_good way h ps) refl
   where
     by-search : (o : Option (List ℕ)) → first_good way h ps ≡ o → is_some o ≡ true → SomeGood way h ps
-    by-search (some cs) is there = record { choice = cs; good = (firstGood-some is).good }
+    by-search (some cs) is there = record { choice = cs; good = (first_good-some is).good }
     by-search none is there = absurd (true≢false (sym there))
 
 -- ---- the side found

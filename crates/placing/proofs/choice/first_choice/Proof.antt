@@ -8,7 +8,7 @@ use native.Mathlib.Omega.{arith}
 use borrow.Author.Rules.{rules}
 use borrow.Author.Tests.{not-true, not-false}
 use lib.ListN.{take}
-use Rattle.placing.specs.theorems.Answer.{firstGood-none}
+use Rattle.placing.specs.theorems.Answer.{first_good-none}
 use Rattle.placing.specs.declared.units.Place.{Place}
 use Rattle.placing.specs.code.Sites.{sites_of, length-sites}
 use Rattle.placing.specs.code.Marks.{kept_same}
@@ -72,7 +72,7 @@ returns-3 c =
     let start = at-choose.before.before.before.before.before.before.before.before in
     let failed = not-true at-choose.choose.result.ok c.if3.true in
     let first = sym at-choose.choose.ensures.0 ∙ ap (λ (b : Bool). where_yes b (take start.args.n at-choose.choose.result.corners)) failed in
-    (no-choice start.args.way start.args.side.0 (sites-of start) (firstGood-none first), at-choose.choose.ensures.1)
+    (no-choice start.args.way start.args.side.0 (sites-of start) (first_good-none first), at-choose.choose.ensures.1)
 
 first-corners-requires-2 : tie.Need-first-corners-requires-2
 first-corners-requires-2 c κs = search rules

@@ -1,6 +1,6 @@
 -- Laws of rules/Choice: two labels that meet, the four facts about good choices that every way of placing needs, then the first of them.
 -- Assumes nothing.
-use Rattle.std.specs.Prelude.{◌≡◌, refl, List, [], ◌∷◌, ◌≢◌, ◌⊎◌, ℕ, suc, ◌≤◌, ◌<◌, length, replicate}
+use Rattle.std.specs.Prelude.{◌≡◌, refl, List, [], ◌∷◌, ◌≢◌, ◌⊎◌, ℕ, zero, suc, ◌≤◌, ◌<◌, length, replicate}
 use Rattle.std.proofs.Common.{sym, ◌∙◌, inl, inr, zero-le, suc-le-suc, arith}
 use Rattle.std.proofs.Math.Logic.{Ne-symm}
 use Rattle.std.proofs.Math.Decide.{ℕ_discrete, dec_lt}
@@ -162,6 +162,8 @@ first-unique {cs = cs} {es = es} one other =
 
 -- No list of corners comes before the one that has corner 1 everywhere.
 ones-first : (n : ℕ) (es : List ℕ) → ((i : ℕ) → i < n → 1 ≤ corner_at es i) → Before es (replicate n 1) → ⊥
+ones-first zero es corner before = elim before [ ]
+ones-first (suc n) [] corner before = elim before [ ]
 ones-first (suc n) (e ∷ es) corner (lower less) = omega (arith, corner 0 (suc-le-suc zero-le))
 ones-first (suc n) (e ∷ es) corner (later b) = ones-first n es (λ i listed. corner (suc i) (suc-le-suc listed)) b
 

@@ -87,14 +87,14 @@ module _ (p q : ℕ) (some-p : 1 ≤ p) (some-q : 1 ≤ q) where
           → (point : Point) × Covers p q s c point × Covers p q t e point
       go (inside x xs xt) (inside y ys yt) = (
         both (λ axis. Fraction) x y,
-        square (λ axis. elim axis [ X ↦ xs | Y ↦ ys ]),
-        square (λ axis. elim axis [ X ↦ xt | Y ↦ yt ]),
+        square (λ axis. elim axis as (λ k. Inside p q (toward k c) (along k s) (both (λ a. Fraction) x y k)) [ X ↦ xs | Y ↦ ys ]),
+        square (λ axis. elim axis as (λ k. Inside p q (toward k e) (along k t) (both (λ a. Fraction) x y k)) [ X ↦ xt | Y ↦ yt ]),
       )
       go (inside x xs xt) (at_sites same) =
           (both (λ axis. Fraction) x (point_of s Y), edge X xs (record { at = omega arith }), edge X xt (record { at = omega arith }))
       go (at_sites same) (inside y ys yt) =
           (both (λ axis. Fraction) (point_of s X) y, edge Y ys (record { at = omega arith }), edge Y yt (record { at = omega arith }))
-      go (at_sites same-x) (at_sites same-y) = absurd (differ (place-equal (λ axis. elim axis [ X ↦ same-x | Y ↦ same-y ])))
+      go (at_sites same-x) (at_sites same-y) = absurd (differ (place-equal (λ axis. elim axis as (λ k. along k s ≡ along k t) [ X ↦ same-x | Y ↦ same-y ])))
 
 -- ---- labels that cover a point in common meet
 

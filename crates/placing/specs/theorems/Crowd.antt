@@ -71,10 +71,11 @@ doubled-covers h s c t differ = (to, from)
         go : Inside (2 * h) 1 (toward X c) (along X s) (point_of t X) ⊎ AtSite (along X s) (point_of t X)
             → Inside (2 * h) 1 (toward Y c) (along Y s) (point_of t Y) ⊎ AtSite (along Y s) (point_of t Y)
             → Covers (2 * h) 1 s c (point_of t)
-        go (inr x) (inr y) = absurd (differ (place-equal (λ axis. elim axis [ X ↦ omega arith | Y ↦ omega arith ])))
+        go (inr x) (inr y) = absurd (differ (place-equal (λ axis. elim axis as (λ k. along k s ≡ along k t) [ X ↦ omega arith | Y ↦ omega arith ])))
         go (inr x) (inl y) = edge Y y x
         go (inl x) (inr y) = edge X x y
-        go (inl x) (inl y) = square (λ axis. elim axis [ X ↦ x | Y ↦ y ])
+        go (inl x) (inl y) = square
+          (λ axis. elim axis as (λ k. Inside (2 * h) 1 (toward k c) (along k s) (point_of t k)) [ X ↦ x | Y ↦ y ])
 
     from : Covers (2 * h) 1 s c (point_of t) → DoubledCovers h s c t
     from covers axis =

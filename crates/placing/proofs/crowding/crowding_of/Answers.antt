@@ -1,0 +1,34 @@
+-- `crowding::crowding_of` meets its contract. The loop's invariant: the reaches are over the rows below `i`, with the top that these sites
+-- leave.
+-- Assumes nothing.
+use native.Mathlib.Nat.{le_trans}
+use native.Mathlib.Omega.{arith}
+use Prim.Native.Nat.{◌-◌}
+use Rattle.placing.specs.code.Sites.{held_at, length-sites}
+use Rattle.placing.specs.code.Crowding.{crowding-none, crowding-more, crowding-all}
+use Rattle.placing.proofs.crowding.crowding_of.Goals as goal
+
+pub loop-i-init : goal.loop-i-init
+loop-i-init c =
+    let count = length-sites c.args.n c.args.xs.now c.args.ys.now in
+    (omega arith, crowding-none c.doubled-furthest.result.0 c.doubled-furthest.ensures (omega arith))
+
+pub lower_row-requires : goal.lower_row-requires
+lower_row-requires c =
+    let so_far = c.loop-i.invariant.1 in
+    (held_at _ (le_trans so_far.judged c.requires.judged) c.requires, c.loop-i-test.true, so_far.over)
+
+pub top_left-top-requires : goal.top_left-top-requires
+top_left-top-requires c =
+    (c.lower_row.ensures.size, omega arith)
+
+pub loop-i-preserved : goal.loop-i-preserved
+loop-i-preserved c =
+    let asked = c.args in
+    let count = length-sites asked.n asked.xs.now asked.ys.now in
+    (omega arith, crowding-more (omega arith) c.loop-i.invariant.1 c.lower_row.ensures c.top_left-top.ensures)
+
+pub returns : goal.returns
+returns c =
+    let asked = c.args in
+    crowding-all c.loop-i.top (length-sites asked.n asked.xs.now asked.ys.now) (omega arith) c.loop-i.invariant.1

@@ -1,0 +1,11 @@
+-- `crowding::reaches_of` meets its contract, by the function of each way.
+-- Assumes nothing.
+use Rattle.placing.proofs.crowding.reaches_of.Goals as goal
+
+pub returns-in-Usual : goal.returns-in-Usual
+returns-in-Usual c =
+    rw c.in-Usual.is c.crowding_of.ensures
+
+pub returns-in-Above : goal.returns-in-Above
+returns-in-Above c =
+    rw c.in-Above.is (c.upper_corners.ensures _)

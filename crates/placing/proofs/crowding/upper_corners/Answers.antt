@@ -1,0 +1,19 @@
+-- `crowding::upper_corners` meets its contract. The loop's invariant: the reaches before `at` are written.
+-- Assumes nothing.
+use native.Mathlib.Omega.{arith}
+use Prim.Native.Nat.{◌-◌}
+use Rattle.placing.specs.code.Filled.{filled_none, filled_next}
+use Rattle.placing.specs.code.Crowding.{crowding-above}
+use Rattle.placing.proofs.crowding.upper_corners.Goals as goal
+
+pub loop-at-init : goal.loop-at-init
+loop-at-init c =
+    (omega arith, filled_none)
+
+pub loop-at-preserved : goal.loop-at-preserved
+loop-at-preserved c =
+    (omega arith, filled_next c.loop-at.invariant.1 (omega arith) c.upper_reach.ensures)
+
+pub returns : goal.returns
+returns c =
+    crowding-above _ c.doubled-furthest.ensures (omega arith) c.loop-at.invariant.1

@@ -258,7 +258,7 @@ unfolding digits_after
 read-writes {m} {front} [] {n} is some-front e = rw append-nil (subst (λ (v : ℕ). Writes v front) (some-injective m n e) is)
 read-writes {m} {front} (b ∷ bytes) {n} is some-front e =
     let (d, same, digit, further) = read-digit m b bytes n e in
-    rw (same, ← append_snoc) (read-writes bytes (one_more some-front digit is) (omega arith) further)
+    rw (same, ← append_snoc) (read-writes {m = m * 10 + d} bytes (one_more some-front digit is) (omega arith) further)
 
 -- so a text with a number in it writes that.
 pub number-written : (text : List ℕ) (n : ℕ) → number_in text ≡ some n → Writes n text

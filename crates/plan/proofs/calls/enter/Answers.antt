@@ -1,0 +1,28 @@
+-- `enter` meets its contract: what it reads fits, and is entered as the rules say. Assumes nothing.
+use mathlib.Core.Option.{some}
+use Rattle.plan.specs.calls.Plan.{sites_in}
+use Rattle.plan.specs.theorems.Calls.{enter-told}
+use Rattle.plan.specs.code.Entering.{PlaceIs, place_read_lem, call-answers, name_fits, entered-as-read}
+use Rattle.plan.proofs.calls.enter.Goals as goal
+
+pub enter_read-requires : goal.enter_read-requires
+enter_read-requires c =
+    let place_is : PlaceIs (some c.args.x) (some c.args.y) c.place_at-site_place.result =
+        place_read_lem _ _ c.coordinate_at.ensures c.coordinate_at-2.ensures c.place_at-site_place.ensures in
+    let start = start_of c in
+    (start.pre, name_fits start.args.name.now c.name_from-site_name.ensures, place_is.ranges)
+
+pub returns : goal.returns
+returns c =
+    let place_is : PlaceIs (some c.args.x) (some c.args.y) c.place_at-site_place.result =
+        place_read_lem _ _ c.coordinate_at.ensures c.coordinate_at-2.ensures c.place_at-site_place.ensures in
+    let start = start_of c.before in
+    let told = enter-told start.args.plan start.args.name.now start.args.x start.args.y
+    (call-answers start.args.plan c.enter_read.ensures
+    (entered-as-read (sites_in start.args.plan) start.args.name.now (some start.args.x) (some start.args.y)
+    c.name_from-site_name.ensures place_is)) in
+    record {
+      answer = told.0;
+      valid = told.1;
+      told = told.2;
+    }

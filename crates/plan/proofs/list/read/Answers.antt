@@ -1,0 +1,23 @@
+-- `plan::list::read` meets its contract: by where reading its lines stops. Assumes nothing.
+use Rattle.plan.specs.code.Reading.{lines-refused, lines-done}
+use Rattle.plan.specs.theorems.Reading.{read_told}
+use Rattle.plan.proofs.list.read.Goals as goal
+
+pub returns-in-Refused : goal.returns-in-Refused
+returns-in-Refused c =
+    let told = read_told _
+    (lines-refused c.read_lines-lines.ensures c.in-Refused.is c.start.ensures c.refuse.ensures) in
+    record {
+      answer = told.0;
+      valid = told.1;
+      told = told.2;
+    }
+
+pub returns : goal.returns
+returns c =
+    let told = read_told _ (lines-done c.read_lines-lines.ensures c.in_default.is) in
+    record {
+      answer = told.0;
+      valid = told.1;
+      told = told.2;
+    }

@@ -21,9 +21,9 @@ returns-then-not-is_side c =
     let told = choose-refuses c.requires c.args.way c.args.side c.args.table.now (outside-first c.args.side c.args.plan.count (length c.args.table.now) outside) c.refuse.ensures in
     record {
       answer = told.0;
-      table = told.1;
-      valid = told.2;
-      told = told.3;
+      table = told.1.0;
+      valid = told.1.1.0;
+      told = told.1.1.1;
     }
 
 pub unready-failed-requires : goal.unready-failed-requires
@@ -39,9 +39,9 @@ returns-in-Refused c =
     c.refuse-in-Refused.ensures in
     record {
       answer = told.0;
-      table = told.1;
-      valid = told.2;
-      told = told.3;
+      table = told.1.0;
+      valid = told.1.1.0;
+      told = told.1.1.1;
     }
 
 pub choose_corners-choice-requires : goal.choose_corners-choice-requires
@@ -65,9 +65,9 @@ returns-then-not-choice c =
     c.choose_corners-choice.ensures.table none_good c.refuse-then-not-choice.ensures in
     record {
       answer = told.0;
-      table = told.1;
-      valid = told.2;
-      told = told.3;
+      table = told.1.0;
+      valid = told.1.1.0;
+      told = told.1.1.1;
     }
 
 pub returns : goal.returns
@@ -79,13 +79,13 @@ returns c =
     let there = sym (holding-exists holding c.args.way c.args.side _ c.choose_corners-choice.ensures.first)
     ∙ not-false c.choose_corners-choice.result.exists c.if-not-choice.false in
     let told = choose-accepts c.requires c.args.way c.args.side c.args.table.now
-    (given-first c.args.side c.args.plan.count (length c.args.table.now) given)
+    (given-first c.args.side c.args.plan.count (length c.args.table.now) given ready)
     c.choose_corners-choice.ensures.table there given (holding-ready holding c.args.table.now ready).some_sites
     (ap {B = Planned} (λ (p : Plan). record { outcome = Done; plan = p })
     (holding-placed holding c.args.way c.args.side c.choose_corners-choice.result c.choose_corners-choice.ensures.first c.placed_at.ensures)) in
     record {
       answer = told.0;
-      table = told.1;
-      valid = told.2;
-      told = told.3;
+      table = told.1.0;
+      valid = told.1.1.0;
+      told = told.1.1.1;
     }

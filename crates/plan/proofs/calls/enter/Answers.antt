@@ -9,20 +9,18 @@ pub enter_read-requires : goal.enter_read-requires
 enter_read-requires c =
     let place_is : PlaceIs (some c.args.x) (some c.args.y) c.place_at-site_place.result =
         place_read_lem _ _ c.coordinate_at.ensures c.coordinate_at-2.ensures c.place_at-site_place.ensures in
-    let start = start_of c in
-    (start.pre, name_fits start.args.name.now c.name_from-site_name.ensures, place_is.ranges)
+    (c.requires, name_fits c.args.name.now c.name_from-site_name.ensures, place_is.ranges)
 
 pub returns : goal.returns
 returns c =
     let place_is : PlaceIs (some c.args.x) (some c.args.y) c.place_at-site_place.result =
         place_read_lem _ _ c.coordinate_at.ensures c.coordinate_at-2.ensures c.place_at-site_place.ensures in
-    let start = start_of c.before in
-    let told = enter-told start.args.plan start.args.name.now start.args.x start.args.y
-    (call-answers start.args.plan c.enter_read.ensures
-    (entered-as-read (sites_in start.args.plan) start.args.name.now (some start.args.x) (some start.args.y)
+    let told = enter-told c.args.plan c.args.name.now c.args.x c.args.y
+    (call-answers c.args.plan c.enter_read.ensures
+    (entered-as-read (sites_in c.args.plan) c.args.name.now (some c.args.x) (some c.args.y)
     c.name_from-site_name.ensures place_is)) in
     record {
       answer = told.0;
-      valid = told.1;
-      told = told.2;
+      valid = told.1.0;
+      told = told.1.1;
     }

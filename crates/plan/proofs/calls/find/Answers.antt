@@ -19,9 +19,9 @@ returns-in-Refused c =
     let told = find-refuses c.args.plan c.args.way c.args.table.now (outcome-refused _ (sym c.unready-failed.ensures ∙ c.in-Refused.is)) in
     record {
       answer = told.0;
-      table = told.1;
-      told = told.2;
-      value = told.3;
+      table = told.1.0;
+      told = told.1.1.0;
+      value = told.1.1.1;
     }
 
 pub find_side-requires : goal.find_side-requires
@@ -35,7 +35,7 @@ returns c =
     c.find_side.ensures.table in
     record {
       answer = told.0;
-      table = told.1;
-      told = told.2;
-      value = told.3;
+      table = told.1.0;
+      told = told.1.1.0;
+      value = told.1.1.1;
     }

@@ -25,7 +25,7 @@ returns-in-Refused c =
     let refused = reading-refused args.way args.text.now c.read-listed.ensures.answer c.in-Refused.is in
     record {
       answer = refused;
-      valid = c.read-listed.ensures.valid.0;
+      valid = c.read-listed.ensures.valid;
       told = list-told args.way args.text.now refused;
     }
 
@@ -33,11 +33,11 @@ pub returns-in-SideIs : goal.returns-in-SideIs
 returns-in-SideIs c =
     let args = c.args in
     let text = args.text.now in
-    let placed = reading-placed args.way text lent lent-size c.find-found.new.1.1.0 (search rules)
+    let placed = reading-placed args.way text lent lent-size c.find-found.new.table (search rules)
     c.read-listed.ensures.answer c.in_default.is (sym c.in-SideIs.is ∙ c.find-found.ensures.answer) c.choose_at.ensures.answer in
     record {
       answer = placed;
-      valid = c.choose_at.ensures.table.1.0;
+      valid = c.choose_at.ensures.valid;
       told = list-told args.way text placed;
     }
 
@@ -50,6 +50,6 @@ returns-in-NoSide c =
     c.read-listed.ensures.answer c.in_default.is (sym c.in-NoSide.is ∙ c.find-found.ensures.answer) in
     record {
       answer = refused;
-      valid = subst (λ (p : Planned). Valid p.plan) (sym c.refuse.ensures) c.read-listed.ensures.valid.0;
+      valid = subst (λ (p : Planned). Valid p.plan) (sym c.refuse.ensures) c.read-listed.ensures.valid;
       told = list-told args.way text refused;
     }

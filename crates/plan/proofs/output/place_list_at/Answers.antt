@@ -33,7 +33,7 @@ returns-in-Refused c =
     let refused = reading-refused-at c.args.way c.args.side given c.read-listed.ensures.answer c.in-Refused.is in
     record {
       answer = refused;
-      valid = c.read-listed.ensures.valid.0;
+      valid = c.read-listed.ensures.valid;
       told = list-told-at c.args.way c.args.side text refused;
     }
 
@@ -59,6 +59,6 @@ returns c =
     c.read-listed.ensures.answer c.in_default.is c.choose_at-placed.ensures.answer c.in_default-choosing.is in
     record {
       answer = placed;
-      valid = c.choose_at-placed.ensures.table.1.0;
+      valid = c.choose_at-placed.ensures.valid;
       told = list-told-at c.args.way c.args.side text placed;
     }

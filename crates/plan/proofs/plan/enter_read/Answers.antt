@@ -99,14 +99,9 @@ returns c =
     c.in_default.is) in
     let room : c.args.plan.count < most_sites =
         omega (arith, holding.count, passes.room) in
-    let told = told_of c.before in
-    let start = told.before.before.before in
-    let name = start.args.name in
-    let place = start.args.place in
-    let passed = passes in
-    let told = accepts start.args.plan (passed-listed holding.listed (read-rules start.pre.1 start.pre.2 passed) passed)
-    (c.unplaced-more.ensures ∙ holding-more holding name.name place.place start.pre.1.padded room)
-    (passed-entered passed) in
+    let told = accepts c.args.plan (passed-listed holding.listed (read-rules c.requires.1 c.requires.2 passes) passes)
+    (c.unplaced-more.ensures ∙ holding-more holding c.args.name.name c.args.place.place c.requires.1.padded room)
+    (passed-entered passes) in
     record {
       answer = told.0;
       valid = told.1;

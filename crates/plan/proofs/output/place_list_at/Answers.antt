@@ -30,7 +30,7 @@ returns-in-Refused c =
     let given : is_side c.args.side ≡ true =
         sym c.is_side.ensures ∙ c.if-not-is_side.false in
     let text = c.args.text.now in
-    let refused = reading-refused-at c.args.way c.args.side given c.read-listed.ensures.answer c.in-Refused.is in
+    let refused = reading-refused-at c.args.way c.args.side given text c.read-listed.ensures.answer c.in-Refused.is in
     record {
       answer = refused;
       valid = c.read-listed.ensures.valid;
@@ -43,7 +43,7 @@ returns-in-Refused-choosing c =
         sym c.is_side.ensures ∙ c.if-not-is_side.false in
     let text = c.args.text.now in
     let refused = c.refuse-in-Refused-choosing.ensures ∙ ap (λ (p : Plan). refusal-of p c.in-Refused-choosing.why) c.start-in-Refused-choosing.ensures.answer
-    ∙ choosing-refused c.args.way c.args.side given (replicate full_table 0) (length-replicate {A = ℕ} full_table 0)
+    ∙ choosing-refused c.args.way c.args.side given text (replicate full_table 0) (length-replicate {A = ℕ} full_table 0)
     c.read-listed.ensures.answer c.in_default.is c.choose_at-placed.ensures.answer c.in-Refused-choosing.is in record {
       answer = refused;
       valid = subst (λ (p : Planned). Valid p.plan) (sym c.refuse-in-Refused-choosing.ensures) c.start-in-Refused-choosing.ensures.valid;
@@ -55,7 +55,7 @@ returns c =
     let given : is_side c.args.side ≡ true =
         sym c.is_side.ensures ∙ c.if-not-is_side.false in
     let text = c.args.text.now in
-    let placed = choosing-done c.args.way c.args.side given (replicate full_table 0) (length-replicate {A = ℕ} full_table 0)
+    let placed = choosing-done c.args.way c.args.side given text (replicate full_table 0) (length-replicate {A = ℕ} full_table 0)
     c.read-listed.ensures.answer c.in_default.is c.choose_at-placed.ensures.answer c.in_default-choosing.is in
     record {
       answer = placed;

@@ -1,12 +1,12 @@
 -- `number_from` reads a number: a text that is not empty and has no leading zero writes the number of its digits.
 -- Assumes nothing.
-use mathlib.Core.Logic.{⊎_elim}
 use mathlib.Core.Path.{◌≡◌, sym, ap, ◌∙◌}
 use native.Mathlib.Omega.{arith}
 use Rattle.plan.specs.rules.Text.{digits_after, number_in}
 use Rattle.plan.specs.code.NumberLaws.{empty-number, leading-zero, number_digits}
 use Rattle.plan.specs.code.NumberRead.{number_read}
 use Rattle.plan.proofs.number.number_from.Goals as goal
+use Rattle.plan.proofs.number.number_from.Goals.{then-text-gt1+else-text-eq48, else-text-gt1}
 
 pub returns-then-text-eq0 : goal.returns-then-text-eq0
 returns-then-text-eq0 c =
@@ -23,5 +23,6 @@ returns c =
     let args = c.args in
     let text = args.text.now in
     let number : number_in text ≡ digits_after 0 text =
-    number_digits text (omega arith) (λ long. ⊎_elim (λ w. w.2.left) (λ w. absurd (omega arith)) c.if-text-gt1.branch) in
+    number_digits text (omega arith)
+    (λ long. elim c.if-text-gt1.branch [ then-text-gt1+else-text-eq48 w ↦ w.if-text-eq48.false | else-text-gt1 w ↦ absurd (omega arith) ]) in
     c.digits_from.ensures ∙ sym (ap (number_read args.most) number)

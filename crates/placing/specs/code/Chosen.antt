@@ -12,7 +12,7 @@ use Rattle.placing.specs.rules.Choice.{First}
 use Rattle.placing.specs.deciding.Answer.{first_good}
 use Rattle.placing.specs.calls.Placing.{choice_as}
 use Rattle.placing.specs.theorems.Choice.{first-at-one}
-use Rattle.placing.specs.theorems.Answer.{NoneGood, first_good-some, first_good-none, first_found, none_found}
+use Rattle.placing.specs.theorems.Answer.{NoneGood, first_good-some, first_found, none_found}
 use Rattle.placing.specs.code.Sites.{sites_of}
 use Rattle.placing.specs.search.State.{Walked}
 use Rattle.placing.specs.search.Decided.{walk-solution, walk-none-before}

@@ -2,7 +2,7 @@
 -- are proved by it.
 -- Assumes nothing.
 use Rattle.std.specs.Prelude.{◌≡◌, refl, Bool, true, false, ◌&&◌, ℕ, suc, T, leb, eqb}
-use Rattle.std.proofs.Common.{sym, ap, ◌∙◌}
+use Rattle.std.proofs.Common.{sym, ap}
 use mathlib.Core.List.{List, [], ◌∷◌, cons≢nil}
 use Rattle.std.proofs.Math.Option.{Option, none, some, some-ne-none, none-ne-some}
 use Rattle.placing.specs.declared.units.Place.{Place}

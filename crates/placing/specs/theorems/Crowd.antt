@@ -75,7 +75,7 @@ doubled-covers h s c t differ = (to, from)
         go (inr x) (inl y) = edge Y y x
         go (inl x) (inr y) = edge X x y
         go (inl x) (inl y) = square
-          (λ axis. elim axis as (λ k. Inside (2 * h) 1 (toward k c) (along k s) (point_of t k)) [ X ↦ x | Y ↦ y ])
+            (λ axis. elim axis as (λ k. Inside (2 * h) 1 (toward k c) (along k s) (point_of t k)) [ X ↦ x | Y ↦ y ])
 
     from : Covers (2 * h) 1 s c (point_of t) → DoubledCovers h s c t
     from covers axis =

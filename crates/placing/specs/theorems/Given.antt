@@ -10,7 +10,7 @@ use Rattle.placing.specs.declared.units.Side.{Side}
 use Rattle.placing.specs.declared.units.Side.TheVariants.{Number, Free}
 use Rattle.placing.specs.declared.way.Way.{Way}
 use Rattle.placing.specs.rules.Units.{Distinct, greatest_side, free_side}
-use Rattle.placing.specs.rules.Choice.{SomeGood, First}
+use Rattle.placing.specs.rules.Choice.{SomeGood}
 use Rattle.placing.specs.rules.Answer.{Answer, is_side, judged_at, IsAnswer, is_free, is_number, IsChosen}
 use Rattle.placing.specs.deciding.Answer.{first_good, answer_of, is_some, corners_of, chosen_at}
 use Rattle.placing.specs.theorems.Choice.{good-smaller}

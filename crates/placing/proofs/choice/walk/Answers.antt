@@ -1,7 +1,6 @@
 -- `placing::choice::walk` meets its contract: the walk has come to site i, by the laws of `specs/search/Walk`.
 -- Assumes nothing.
 use mathlib.Core.Path.{◌≡◌}
-use Prim.Native.Nat.{◌-◌}
 use native.Mathlib.Omega.{arith}
 use borrow.Author.Rules.{rules}
 use Rattle.placing.specs.code.Marks.{kept_same, kept-twice}

@@ -3,7 +3,6 @@
 -- Assumes nothing.
 use native.Mathlib.Nat.{le_trans}
 use native.Mathlib.Omega.{arith}
-use Prim.Native.Nat.{◌-◌}
 use Rattle.placing.specs.code.Sites.{held_at, length-sites}
 use Rattle.placing.specs.code.Crowding.{crowding-none, crowding-more, crowding-all}
 use Rattle.placing.proofs.crowding.crowding_of.Goals as goal

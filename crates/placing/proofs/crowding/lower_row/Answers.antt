@@ -3,7 +3,6 @@
 -- Assumes nothing.
 use native.Mathlib.Omega.{arith}
 use mathlib.Core.Path.{refl}
-use Prim.Native.Nat.{◌-◌}
 use Rattle.placing.specs.code.Sites.{length-sites, held_place}
 use Rattle.placing.specs.code.Pairs.{over-next, row-starts, row_ends}
 use Rattle.placing.proofs.crowding.lower_row.Goals as goal
@@ -29,13 +28,12 @@ overflow_step-j-in-loop-j c =
     omega (arith, c.requires.0.few)
 
 pub loop-j-preserved : goal.loop-j-preserved
-loop-j-preserved c =
-    (
-      omega arith,
-      omega arith,
-      over-next c.args.xs.now c.args.ys.now c.loop-j.invariant.0 c.loop-j-test.true c.place_at-s.ensures
-          c.place_at.ensures c.loop-j.invariant.2 c.lower_pair.ensures,
-    )
+loop-j-preserved c = (
+  omega arith,
+  omega arith,
+  over-next c.args.xs.now c.args.ys.now c.loop-j.invariant.0 c.loop-j-test.true c.place_at-s.ensures
+      c.place_at.ensures c.loop-j.invariant.2 c.lower_pair.ensures,
+)
 
 pub returns : goal.returns
 returns c =

@@ -2,7 +2,6 @@
 -- Assumes nothing.
 use native.Mathlib.Omega.{arith}
 use mathlib.Core.Path.{◌≡◌}
-use Prim.Native.Nat.{◌-◌}
 use Rattle.placing.specs.code.Crowding.{furthest-none, furthest-more, top-half, top-same}
 use Rattle.placing.proofs.crowding.top_left.Goals as goal
 

@@ -1,7 +1,6 @@
 -- `placing::side::bisect` meets its contract: the lower end has a good choice and no judged side from the upper one
 -- on has, until nothing is left to try.
 -- Assumes nothing.
-use Prim.Native.Nat.{◌-◌}
 use native.Mathlib.Omega.{arith}
 use Rattle.placing.specs.code.Marks.{kept_same, kept-twice}
 use Rattle.placing.specs.code.Bisect.{between-starts, between_ends}

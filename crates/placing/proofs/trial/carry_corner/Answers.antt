@@ -1,6 +1,5 @@
 -- `trial::carry_corner` meets its contract. The loop's invariant: the decision of `k` was carried to corner `e` of the other sites below `j`, and the
 -- rest is as at entry. The measure is the number of sites left. Assumes nothing.
-use Prim.Native.Nat.{◌-◌}
 use native.Mathlib.Omega.{arith}
 use Rattle.placing.specs.declared.way.Way.TheVariants.{Usual}
 use Rattle.placing.specs.code.Carry.{carried-start, carried-more, carried-all, carried-stuck, may-carry-to}
@@ -22,11 +21,10 @@ returns-then-not-carry_to c way =
     c.loop-j-test.true c.if-not-carry_to.true
 
 pub loop-j-preserved : goal.loop-j-preserved
-loop-j-preserved c =
-    (
-      omega arith,
-      λ way. carried-more (c.loop-j.invariant.1 way) (c.carry_to.ensures way c.args.n) c.if-not-carry_to.false,
-    )
+loop-j-preserved c = (
+  omega arith,
+  λ way. carried-more (c.loop-j.invariant.1 way) (c.carry_to.ensures way c.args.n) c.if-not-carry_to.false,
+)
 
 pub returns : goal.returns
 returns c way =

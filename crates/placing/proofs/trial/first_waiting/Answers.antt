@@ -1,6 +1,5 @@
 -- `placing::trial::first_waiting` meets its contract. The loop's invariant: no site passed waits.
 -- Assumes nothing.
-use Prim.Native.Nat.{◌-◌}
 use native.Mathlib.Omega.{arith}
 use borrow.Author.Count.{below_more}
 use Rattle.placing.proofs.trial.first_waiting.Goals as goal

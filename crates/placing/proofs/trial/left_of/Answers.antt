@@ -2,7 +2,6 @@
 -- Assumes nothing.
 use mathlib.Core.Path.{◌≡◌, sym, ◌∙◌}
 use native.Mathlib.Omega.{arith}
-use Prim.Native.Nat.{◌-◌}
 use Rattle.placing.specs.search.Rows.{row_next}
 use Rattle.placing.specs.code.Steps.{left-none, left_open, left-shut, left-all}
 use Rattle.placing.proofs.trial.left_of.Goals as goal
@@ -18,8 +17,8 @@ loop-e-preserved c =
     let byte = row_next asked.opens.now asked.j c.loop-e.e (omega arith) in (
       omega arith,
       elim c.if-opens-j-eq1.branch [
-        then-opens-j-eq1 w ↦ rw (w.left-is ∙ w.one_more-left.ensures) (left_open c.loop-e.invariant.1 (byte ∙ w.if-opens-j-eq1.true))
-      | else-opens-j-eq1 w ↦ rw w.left-is (left-shut c.loop-e.invariant.1 (λ is_open. w.if-opens-j-eq1.false (sym byte ∙ is_open)))
+        | then-opens-j-eq1 w ↦ rw (w.left-is ∙ w.one_more-left.ensures) (left_open c.loop-e.invariant.1 (byte ∙ w.if-opens-j-eq1.true))
+        | else-opens-j-eq1 w ↦ rw w.left-is (left-shut c.loop-e.invariant.1 (λ is_open. w.if-opens-j-eq1.false (sym byte ∙ is_open)))
       ],
     )
 

@@ -1,7 +1,6 @@
 -- `placing::trial::mark` meets its contract. The loop's invariant: the sites passed have their marks, and the table is kept from n on.
 -- Assumes nothing.
 use mathlib.Core.Path.{◌≡◌}
-use Prim.Native.Nat.{◌-◌}
 use native.Mathlib.Omega.{arith}
 use Rattle.placing.specs.code.Filled.{filled_none, filled_next}
 use Rattle.placing.specs.code.Marks.{marked_all, kept_same, kept_set}

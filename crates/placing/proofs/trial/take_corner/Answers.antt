@@ -2,7 +2,6 @@
 -- Assumes nothing.
 use mathlib.Core.Path.{◌≡◌, refl}
 use native.Mathlib.Omega.{arith}
-use Prim.Native.Nat.{◌-◌}
 use Rattle.placing.specs.code.Filled.{filled_none, filled_more}
 use Rattle.placing.specs.code.Carry.{taken-corner}
 use Rattle.placing.proofs.trial.take_corner.Goals as goal

@@ -1,6 +1,6 @@
 -- `plan::sheet::put_side` meets its contract: the word with its tab, the side, the line feed, one put after another.
 -- Assumes nothing.
-use Rattle.std.proofs.Common.{◌+◌, ◌≤◌, arith, length}
+use Rattle.std.proofs.Common.{◌≤◌, arith, length}
 use Rattle.placing.specs.rules.Units.{greatest_side}
 use Rattle.plan.specs.rules.Text.{decimal}
 use Rattle.plan.specs.rules.Sheet.{side_text, side_line}

@@ -6,18 +6,10 @@ use Rattle.plan.proofs.list.read.Goals as goal
 pub returns-in-Refused : goal.returns-in-Refused
 returns-in-Refused c =
     let told = read_told _
-    (lines-refused c.read_lines-lines.ensures c.in-Refused.is c.start.ensures c.refuse.ensures) in
-    record {
-      answer = told.0;
-      valid = told.1;
-      told = told.2;
-    }
+    (lines-refused c.read_lines-lines.ensures c.in-Refused.is (c.start.ensures.answer, c.start.ensures.valid) c.refuse.ensures) in
+    record { answer = told.0; valid = told.1.0; told = told.1.1 }
 
 pub returns : goal.returns
 returns c =
     let told = read_told _ (lines-done c.read_lines-lines.ensures c.in_default.is) in
-    record {
-      answer = told.0;
-      valid = told.1;
-      told = told.2;
-    }
+    record { answer = told.0; valid = told.1.0; told = told.1.1 }

@@ -64,7 +64,7 @@ rows =
 
 -- A row tells what the call hands back.
 abbrev pub Right : Row → Type 0
-Right row = growth_asked row.own_val.place row.own_val.corner row.other.place row.other.corner ≡ row.growth
+Right row = growth_asked row.own.place row.own.corner row.other.place row.other.corner ≡ row.growth
 
 abbrev pub AllRight : List Row → Type 0
 AllRight [] = Unit {0}

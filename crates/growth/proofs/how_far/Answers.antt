@@ -35,21 +35,21 @@ returns-then-no_label-2 c =
 pub overflow_cast-c : goal.overflow_cast-c
 overflow_cast-c c =
     let own : HasLabel c.args.s c.args.c =
-        has-label _ _ (sym c.no_label.ensures ∙ c.if-no_label.false) in
+    has-label _ _ (sym c.no_label.ensures ∙ c.if-no_label.false) in
     record { fits = omega (arith, own.corner.most) }
 
 pub overflow_cast-e : goal.overflow_cast-e
 overflow_cast-e c =
     let other : HasLabel c.args.t c.args.e =
-        has-label _ _ (sym c.no_label-2.ensures ∙ c.if-no_label-2.false) in
+    has-label _ _ (sym c.no_label-2.ensures ∙ c.if-no_label-2.false) in
     record { fits = omega (arith, other.corner.most) }
 
 pub growth_of-requires : goal.growth_of-requires
 growth_of-requires c =
     let own : HasLabel c.args.s c.args.c =
-        has-label _ _ (sym c.no_label.ensures ∙ c.if-no_label.false) in
+    has-label _ _ (sym c.no_label.ensures ∙ c.if-no_label.false) in
     let other : HasLabel c.args.t c.args.e =
-        has-label _ _ (sym c.no_label-2.ensures ∙ c.if-no_label-2.false) in
+    has-label _ _ (sym c.no_label-2.ensures ∙ c.if-no_label-2.false) in
     (own.on_plan, own.corner, other.on_plan, other.corner)
 
 pub returns : goal.returns

@@ -1,7 +1,6 @@
 -- `has_byte` meets its contract: no byte passed is in the range, so those left decide. The measure is how many these are.
 -- Assumes nothing.
 use mathlib.Core.Path.{refl, sym, ◌∙◌}
-use Prim.Native.Nat.{◌-◌}
 use native.Mathlib.Omega.{arith}
 use borrow.Author.Rules.{rules}
 use Rattle.hints.specs.TestLaws.{has-from, has_end}

@@ -1,7 +1,6 @@
 -- `line_length` meets its contract: the bytes passed are of the first line. The measure is what is left.
 -- Assumes nothing.
 use mathlib.Core.Path.{refl}
-use Prim.Native.Nat.{◌-◌}
 use native.Mathlib.Omega.{arith}
 use borrow.Author.Rules.{rules}
 use Rattle.hints.specs.TestLaws.{feed-ends, other-goes-on, end-ends}

@@ -1,7 +1,6 @@
 -- `starts_with` meets its contract: the bytes passed are the same, so those left decide. The measure is how many these are.
 -- Assumes nothing.
 use mathlib.Core.Path.{refl, sym, ◌∙◌}
-use Prim.Native.Nat.{◌-◌}
 use native.Mathlib.Omega.{arith}
 use lib.ListN.{drop}
 use borrow.Author.Rules.{rules}

@@ -21,11 +21,11 @@ use Rattle.plan.specs.declared.plan.Written.TheVariants.{Bytes, NotWritten}
 use Rattle.plan.specs.declared.refusal.Outcome.{Outcome}
 use Rattle.plan.specs.declared.refusal.Outcome.TheVariants.{Done, Refused}
 use Rattle.plan.specs.declared.refusal.Refusal.{Refusal}
-use Rattle.plan.specs.declared.refusal.Refusal.TheVariants.{BadNumber, NoSites, NotPlaced, ShortBuffer, ShortTable, NoGoodChoice}
+use Rattle.plan.specs.declared.refusal.Refusal.TheVariants.{BadNumber, NoSites, NotPlaced, ShortBuffer, NoGoodChoice}
 use Rattle.plan.specs.rules.Refusal.{number_of, ◌gives◌, first_refusal, number_by, Result, accepted, refused, unless, after, after_tests}
 use Rattle.plan.specs.rules.List.{Site, places_of}
 use Rattle.plan.specs.rules.Sheet.{sheet_with, refusal_line}
-use Rattle.plan.specs.rules.Calls.{no_sites, no_good, choosing_tests, write_tests, filled_with, bytes_after, to_place, to_place_at}
+use Rattle.plan.specs.rules.Calls.{no_sites, no_good, write_tests, filled_with, bytes_after, to_place, to_place_at}
 use Rattle.plan.specs.deciding.Output.{sheet_of, sheet_at, output_for, output_of, exists_at, output_at}
 use Rattle.plan.specs.deciding.Reading.{read_list}
 use Rattle.plan.specs.calls.Lengths.{full_table, longest_sheet}
@@ -51,7 +51,7 @@ use Rattle.plan.specs.calls.Answers.{
 use Rattle.plan.specs.Demands.{WriteTold, PlacedSheet, SheetWritten}
 use Rattle.plan.specs.theorems.Reading.{reads-are, read-listed}
 use Rattle.plan.specs.theorems.Sheet.{answer-listed, sheet-longest, some-to-place}
-use Rattle.plan.specs.theorems.Plan.{sites-unplaced, sites-placed, Holding, holding-unplaced, valid-holding, valid-for}
+use Rattle.plan.specs.theorems.Plan.{sites-unplaced, sites-placed, holding-unplaced, valid-holding, valid-for}
 use Rattle.plan.specs.theorems.Calls.{write-told}
 use Rattle.plan.specs.theorems.Choosing.{chosen-listed, found-done, placed_by}
 use Rattle.plan.specs.theorems.Output.{sheet-placed, ToPlace, not_placed, to_be_placed, text-to-place}

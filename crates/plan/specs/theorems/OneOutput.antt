@@ -1,20 +1,19 @@
 -- The demands name one output: whoever answers a text by them, by the same way, writes the same bytes.
 -- Assumes nothing.
 use Rattle.std.specs.Prelude.{◌≡◌, refl, true, List, [], ℕ, ◌≤◌, ◌<◌, length}
-use Rattle.std.proofs.Common.{sym, ap, ap₂, ◌∙◌, subst, true≢false, inl, inr, arith}
+use Rattle.std.proofs.Common.{sym, ap, ◌∙◌, subst, true≢false, inl, inr, arith}
 use Rattle.std.proofs.Math.Option.{some}
-use Rattle.std.proofs.Math.Decide.{ℕ_discrete}
 use Rattle.placing.specs.declared.units.Side.{Side}
 use Rattle.placing.specs.declared.way.Way.{Way}
 use Rattle.placing.specs.rules.Choice.{SomeGood}
-use Rattle.placing.specs.rules.Answer.{Answer, is_side, judged_at, IsAnswer}
+use Rattle.placing.specs.rules.Answer.{is_side, judged_at}
 use Rattle.placing.specs.theorems.Answer.{answer-unique}
 use Rattle.placing.specs.theorems.Given.{is-chosen-at}
 use Rattle.placing.specs.deciding.Answer.{chosen_at}
-use Rattle.plan.specs.rules.Refusal.{Test, number_by, Result, accepted, refused}
+use Rattle.plan.specs.rules.Refusal.{Test, number_by, accepted}
 use Rattle.plan.specs.declared.plan.Plan.{Plan}
 use Rattle.plan.specs.declared.plan.Planned.{Planned}
-use Rattle.plan.specs.rules.List.{Site, places_of, list_text, Reads, end, enter_tests, wanted_at}
+use Rattle.plan.specs.rules.List.{Site, places_of, list_text, end, enter_tests, wanted_at}
 use Rattle.plan.specs.rules.Sheet.{sheet_with, side_on, refusal_line, carried}
 use Rattle.plan.specs.rules.Calls.{finding_tests, choosing_tests, side_tests, corner_tests, write_tests, cleared}
 use Rattle.plan.specs.deciding.Output.{output_of, exists_at, output_at}
@@ -23,7 +22,7 @@ use Rattle.plan.specs.declared.plan.AskedCorner.{AskedCorner}
 use Rattle.plan.specs.declared.plan.Written.{Written}
 use Rattle.plan.specs.calls.Plan.{unplaced_plan, placed_with, placed_plan, sites_in}
 use Rattle.plan.specs.calls.Answers.{outcome_number, side_asked_number, corner_asked_number, written_number, sheet_for}
-use Rattle.plan.specs.Demands.{Refuses, ChooseTold, FirstRefused, Accepts, ListRefused, at_line, of_no_sites, RightSheet, SheetFor, Answered, is_refusal_line, list_sheet}
+use Rattle.plan.specs.Demands.{Refuses, ChooseTold, Accepts, ListRefused, at_line, of_no_sites, RightSheet, SheetFor, Answered, is_refusal_line, list_sheet}
 use Rattle.plan.specs.Demands.{EnterTold, SideTold, CornerTold, WriteTold, ReadTold, read_refused, read_all}
 use Rattle.plan.specs.Demands.{FindTold, ListTold, list_refused, list_is_placed, ListToldAt, is_refused_at, list_is_placed_at}
 use Rattle.plan.specs.Demands.{RefusedAt, out_of_range, refused_list, none_good, PlacedSheet, SheetForAt, AnsweredAt, refusal_at, is_sheet_at}

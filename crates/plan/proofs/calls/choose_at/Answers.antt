@@ -33,7 +33,7 @@ unready-failed-requires c =
 pub returns-in-Refused : goal.returns-in-Refused
 returns-in-Refused c =
     let given : is_side c.args.side ≡ true =
-        sym c.is_side.ensures ∙ c.if-not-is_side.false in
+    sym c.is_side.ensures ∙ c.if-not-is_side.false in
     let told = choose-refuses c.requires c.args.way c.args.side c.args.table.now
     (given-first c.args.side c.args.plan.count (length c.args.table.now) given (outcome-refused _ (sym c.unready-failed.ensures ∙ c.in-Refused.is)))
     c.refuse-in-Refused.ensures in
@@ -47,8 +47,7 @@ returns-in-Refused c =
 pub choose_corners-choice-requires : goal.choose_corners-choice-requires
 choose_corners-choice-requires c =
     let given : is_side c.args.side ≡ true =
-        sym c.is_side.ensures ∙ c.if-not-is_side.false in
-    (
+    sym c.is_side.ensures ∙ c.if-not-is_side.false in (
       holding-ready (valid-holding c.requires) c.args.table.now (outcome-done _ (sym c.unready-failed.ensures ∙ c.in_default.is)),
       (judged-range c.args.side given).1,
     )
@@ -56,7 +55,7 @@ choose_corners-choice-requires c =
 pub returns-then-not-choice : goal.returns-then-not-choice
 returns-then-not-choice c =
     let given : is_side c.args.side ≡ true =
-        sym c.is_side.ensures ∙ c.if-not-is_side.false in
+    sym c.is_side.ensures ∙ c.if-not-is_side.false in
     let holding = valid-holding c.requires in
     let none_good = sym (holding-exists holding c.args.way c.args.side _ c.choose_corners-choice.ensures.first)
     ∙ not-true c.choose_corners-choice.result.exists c.if-not-choice.true in
@@ -73,7 +72,7 @@ returns-then-not-choice c =
 pub returns : goal.returns
 returns c =
     let given : is_side c.args.side ≡ true =
-        sym c.is_side.ensures ∙ c.if-not-is_side.false in
+    sym c.is_side.ensures ∙ c.if-not-is_side.false in
     let holding = valid-holding c.requires in
     let ready = outcome-done _ (sym c.unready-failed.ensures ∙ c.in_default.is) in
     let there = sym (holding-exists holding c.args.way c.args.side _ c.choose_corners-choice.ensures.first)

@@ -8,13 +8,13 @@ use Rattle.plan.proofs.calls.enter.Goals as goal
 pub enter_read-requires : goal.enter_read-requires
 enter_read-requires c =
     let place_is : PlaceIs (some c.args.x) (some c.args.y) c.place_at-site_place.result =
-        place_read_lem _ _ c.coordinate_at.ensures c.coordinate_at-2.ensures c.place_at-site_place.ensures in
+    place_read_lem _ _ c.coordinate_at.ensures c.coordinate_at-2.ensures c.place_at-site_place.ensures in
     (c.requires, name_fits c.args.name.now c.name_from-site_name.ensures, place_is.fits)
 
 pub returns : goal.returns
 returns c =
     let place_is : PlaceIs (some c.args.x) (some c.args.y) c.place_at-site_place.result =
-        place_read_lem _ _ c.coordinate_at.ensures c.coordinate_at-2.ensures c.place_at-site_place.ensures in
+    place_read_lem _ _ c.coordinate_at.ensures c.coordinate_at-2.ensures c.place_at-site_place.ensures in
     let told = enter-told c.args.plan c.args.name.now c.args.x c.args.y
     (call-answers c.args.plan (c.enter_read.ensures.answer, c.enter_read.ensures.valid)
     (entered-as-read (sites_in c.args.plan) c.args.name.now (some c.args.x) (some c.args.y)

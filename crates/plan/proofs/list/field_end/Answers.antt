@@ -1,5 +1,4 @@
 -- `plan::list::field_end` meets its contract. The loop's invariant: the bytes passed are no tabs. Assumes nothing.
-use Prim.Native.Nat.{◌-◌}
 use native.Mathlib.Omega.{arith}
 use Rattle.plan.specs.rules.Text.{tab}
 use Rattle.plan.specs.code.LineLaws.{no-byte-starts, no-byte-on}

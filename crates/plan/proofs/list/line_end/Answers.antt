@@ -1,5 +1,4 @@
 -- `plan::list::line_end` meets its contract. The loop's invariant: the bytes passed are no line feeds. Assumes nothing.
-use Prim.Native.Nat.{◌-◌}
 use native.Mathlib.Nat.{add-zero, add_assoc}
 use native.Mathlib.Omega.{arith}
 use Rattle.plan.specs.rules.Text.{line_feed}

@@ -1,7 +1,6 @@
 -- `is_name` meets its contract: the bytes passed are of a name. The measure is what is left.
 -- Assumes nothing.
 use mathlib.Core.Path.{refl, sym, ◌∙◌}
-use Prim.Native.Nat.{◌-◌}
 use native.Mathlib.Omega.{arith}
 use borrow.Author.Rules.{rules}
 use Rattle.plan.specs.code.NameLaws.{name-bytes-from, bytes-passed, empty-no-name, long-no-name, short-name}

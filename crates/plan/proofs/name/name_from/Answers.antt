@@ -16,11 +16,11 @@ returns-then-not-is_name c =
 pub put_bytes-requires : goal.put_bytes-requires
 put_bytes-requires c =
     let named : is_name c.args.text.now ≡ true =
-        sym c.is_name.ensures ∙ c.if-not-is_name.false in
+    sym c.is_name.ensures ∙ c.if-not-is_name.false in
     (omega arith, omega (arith, name-short _ named))
 
 pub returns : goal.returns
 returns c =
     let named : is_name c.args.text.now ≡ true =
-        sym c.is_name.ensures ∙ c.if-not-is_name.false in
+    sym c.is_name.ensures ∙ c.if-not-is_name.false in
     name-read c.args.text.now named c.put_bytes.ensures

@@ -1,7 +1,6 @@
 -- `same_bytes` compares two texts: up to the loop's index they are the same, so the rest decides. The measure is what is left.
 -- Assumes nothing.
 use mathlib.Core.Path.{refl, sym, ◌∙◌}
-use Prim.Native.Nat.{◌-◌}
 use native.Mathlib.Omega.{arith}
 use borrow.Author.Rules.{rules}
 use borrow.Author.Tests.{eq-eqb, ne_eqb}

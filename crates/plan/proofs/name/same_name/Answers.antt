@@ -2,7 +2,7 @@
 -- Assumes nothing.
 use mathlib.Core.Path.{◌≡◌, refl, sym, ap, ◌∙◌}
 use mathlib.Core.List.{List, [], ◌∷◌, ◌++◌}
-use Prim.Native.Nat.{ℕ, ◌+◌, ◌-◌, ◌<◌}
+use Prim.Native.Nat.{ℕ, ◌+◌, ◌<◌}
 use native.Mathlib.Numerals.{add-one}
 use native.Mathlib.Omega.{arith}
 use lib.ListN.{length, get_or, take}
@@ -31,11 +31,10 @@ one_more a b {i} so_far in-a in_b same =
     rw (add-one, take-suc a i 0 in-a, take-suc b i 0 in_b) (λ k. so_far k ++ (same k ∷ []))
 
 pub loop-i-preserved : goal.loop-i-preserved
-loop-i-preserved c =
-    (
-      omega arith,
-      one_more c.args.a.bytes c.args.b.bytes c.loop-i.invariant.1 (search rules) (search rules) c.if-a-i.false,
-    )
+loop-i-preserved c = (
+  omega arith,
+  one_more c.args.a.bytes c.args.b.bytes c.loop-i.invariant.1 (search rules) (search rules) c.if-a-i.false,
+)
 
 pub returns : goal.returns
 returns c =

@@ -1,7 +1,6 @@
 -- `digits_from` reads digits: the number of those passed, with the others appended, is that of all. The measure is what is left.
 -- Assumes nothing.
 use mathlib.Core.Path.{refl, sym, ap, ◌∙◌}
-use Prim.Native.Nat.{◌-◌}
 use native.Mathlib.Omega.{arith}
 use borrow.Author.Rules.{rules}
 use Rattle.plan.specs.rules.Text.{digits_after}

@@ -28,7 +28,7 @@ returns-then-not-is_side c =
 pub returns-in-Refused : goal.returns-in-Refused
 returns-in-Refused c =
     let given : is_side c.args.side ≡ true =
-        sym c.is_side.ensures ∙ c.if-not-is_side.false in
+    sym c.is_side.ensures ∙ c.if-not-is_side.false in
     let text = c.args.text.now in
     let refused = reading-refused-at c.args.way c.args.side given text c.read-listed.ensures.answer c.in-Refused.is in
     record {
@@ -40,7 +40,7 @@ returns-in-Refused c =
 pub returns-in-Refused-choosing : goal.returns-in-Refused-choosing
 returns-in-Refused-choosing c =
     let given : is_side c.args.side ≡ true =
-        sym c.is_side.ensures ∙ c.if-not-is_side.false in
+    sym c.is_side.ensures ∙ c.if-not-is_side.false in
     let text = c.args.text.now in
     let refused = c.refuse-in-Refused-choosing.ensures ∙ ap (λ (p : Plan). refusal-of p c.in-Refused-choosing.why) c.start-in-Refused-choosing.ensures.answer
     ∙ choosing-refused c.args.way c.args.side given text (replicate full_table 0) (length-replicate {A = ℕ} full_table 0)
@@ -53,7 +53,7 @@ returns-in-Refused-choosing c =
 pub returns : goal.returns
 returns c =
     let given : is_side c.args.side ≡ true =
-        sym c.is_side.ensures ∙ c.if-not-is_side.false in
+    sym c.is_side.ensures ∙ c.if-not-is_side.false in
     let text = c.args.text.now in
     let placed = choosing-done c.args.way c.args.side given text (replicate full_table 0) (length-replicate {A = ℕ} full_table 0)
     c.read-listed.ensures.answer c.in_default.is c.choose_at-placed.ensures.answer c.in_default-choosing.is in

@@ -9,18 +9,18 @@ use Rattle.plan.proofs.plan.enter_outcome.Goals as goal
 pub name_taken-named-requires : goal.name_taken-named-requires
 name_taken-named-requires c =
     let holding : Holding c.args.plan (sites_in c.args.plan) =
-        valid-holding c.requires.0 in
+    valid-holding c.requires.0 in
     (omega (arith, holding.count, holding.listed.few), holding-padded holding, c.requires.1.padded)
 
 pub place_taken-placed-requires : goal.place_taken-placed-requires
 place_taken-placed-requires c =
     let holding : Holding c.args.plan (sites_in c.args.plan) =
-        valid-holding c.requires.0 in
+    valid-holding c.requires.0 in
     omega (arith, holding.count, holding.listed.few)
 
 pub returns : goal.returns
 returns c =
     let holding : Holding c.args.plan (sites_in c.args.plan) =
-        valid-holding c.requires.0 in
+    valid-holding c.requires.0 in
     outcome-of-sites holding c.args.name c.args.place c.name_taken-named.ensures c.place_taken-placed.ensures
     c.first_failed.ensures

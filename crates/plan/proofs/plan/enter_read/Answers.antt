@@ -26,79 +26,79 @@ returns-in-Refused c =
 pub offset_bounds-names-n : goal.offset_bounds-names-n
 offset_bounds-names-n c =
     let holding : Holding c.args.plan (sites_in c.args.plan) =
-        valid-holding c.requires.0 in
+    valid-holding c.requires.0 in
     let passes : Passed (sites_in c.args.plan) (wanted_read c.args.name c.args.place) =
-        let args = c.args in
+    let args = c.args in
     tests-passed
     (outcome-none (enter_tests (sites_in args.plan) (wanted_read args.name args.place)) c.enter_outcome-outcome.ensures
     c.in_default.is) in
     let room : c.args.plan.count < most_sites =
-        omega (arith, holding.count, passes.room) in
+    omega (arith, holding.count, passes.room) in
     record { fits = omega (arith, room) }
 
 pub bounds-names-n : goal.bounds-names-n
 bounds-names-n c =
     let holding : Holding c.args.plan (sites_in c.args.plan) =
-        valid-holding c.requires.0 in
+    valid-holding c.requires.0 in
     let passes : Passed (sites_in c.args.plan) (wanted_read c.args.name c.args.place) =
-        let args = c.args in
+    let args = c.args in
     tests-passed
     (outcome-none (enter_tests (sites_in args.plan) (wanted_read args.name args.place)) c.enter_outcome-outcome.ensures
     c.in_default.is) in
     let room : c.args.plan.count < most_sites =
-        omega (arith, holding.count, passes.room) in
+    omega (arith, holding.count, passes.room) in
     room
 
 pub offset_bounds-places-n : goal.offset_bounds-places-n
 offset_bounds-places-n c =
     let holding : Holding c.args.plan (sites_in c.args.plan) =
-        valid-holding c.requires.0 in
+    valid-holding c.requires.0 in
     let passes : Passed (sites_in c.args.plan) (wanted_read c.args.name c.args.place) =
-        let args = c.args in
+    let args = c.args in
     tests-passed
     (outcome-none (enter_tests (sites_in args.plan) (wanted_read args.name args.place)) c.enter_outcome-outcome.ensures
     c.in_default.is) in
     let room : c.args.plan.count < most_sites =
-        omega (arith, holding.count, passes.room) in
+    omega (arith, holding.count, passes.room) in
     record { fits = omega (arith, room) }
 
 pub bounds-places-n : goal.bounds-places-n
 bounds-places-n c =
     let holding : Holding c.args.plan (sites_in c.args.plan) =
-        valid-holding c.requires.0 in
+    valid-holding c.requires.0 in
     let passes : Passed (sites_in c.args.plan) (wanted_read c.args.name c.args.place) =
-        let args = c.args in
+    let args = c.args in
     tests-passed
     (outcome-none (enter_tests (sites_in args.plan) (wanted_read args.name args.place)) c.enter_outcome-outcome.ensures
     c.in_default.is) in
     let room : c.args.plan.count < most_sites =
-        omega (arith, holding.count, passes.room) in
+    omega (arith, holding.count, passes.room) in
     room
 
 pub overflow_add-n : goal.overflow_add-n
 overflow_add-n c =
     let holding : Holding c.args.plan (sites_in c.args.plan) =
-        valid-holding c.requires.0 in
+    valid-holding c.requires.0 in
     let passes : Passed (sites_in c.args.plan) (wanted_read c.args.name c.args.place) =
-        let args = c.args in
+    let args = c.args in
     tests-passed
     (outcome-none (enter_tests (sites_in args.plan) (wanted_read args.name args.place)) c.enter_outcome-outcome.ensures
     c.in_default.is) in
     let room : c.args.plan.count < most_sites =
-        omega (arith, holding.count, passes.room) in
+    omega (arith, holding.count, passes.room) in
     record { fits = omega (arith, room) }
 
 pub returns : goal.returns
 returns c =
     let holding : Holding c.args.plan (sites_in c.args.plan) =
-        valid-holding c.requires.0 in
+    valid-holding c.requires.0 in
     let passes : Passed (sites_in c.args.plan) (wanted_read c.args.name c.args.place) =
-        let args = c.args in
+    let args = c.args in
     tests-passed
     (outcome-none (enter_tests (sites_in args.plan) (wanted_read args.name args.place)) c.enter_outcome-outcome.ensures
     c.in_default.is) in
     let room : c.args.plan.count < most_sites =
-        omega (arith, holding.count, passes.room) in
+    omega (arith, holding.count, passes.room) in
     let told = accepts c.args.plan (passed-listed holding.listed (read-rules c.requires.1 c.requires.2 passes) passes)
     (c.unplaced-more.ensures ∙ holding-more holding c.args.name.name c.args.place.place c.requires.1.padded room)
     (passed-entered passes) in

@@ -1,9 +1,7 @@
 -- `name_taken` meets its contract. The loop's invariant: none of the first `i` names is the name.
 -- Assumes nothing.
-use Prim.Native.Nat.{◌-◌}
 use native.Mathlib.Omega.{arith}
 use mathlib.Core.Path.{◌≡◌, refl, sym, ◌∙◌}
-use mathlib.Core.Bool.{false}
 use Rattle.plan.specs.calls.Plan.{name_held}
 use Rattle.plan.specs.code.Taken.{is_named, among-more, among_one, held-padded}
 use Rattle.plan.proofs.plan.name_taken.Goals as goal
@@ -24,12 +22,11 @@ returns-then-same_name c =
     (sym c.same_name.ensures ∙ c.if-same_name.true))
 
 pub loop-i-preserved : goal.loop-i-preserved
-loop-i-preserved c =
-    (
-      omega arith,
-      among-more (is_named (name_held c.args.name)) c.args.names c.loop-i.i _ (omega arith) c.loop-i.invariant.1
-          (sym c.same_name.ensures ∙ c.if-same_name.false),
-    )
+loop-i-preserved c = (
+  omega arith,
+  among-more (is_named (name_held c.args.name)) c.args.names c.loop-i.i _ (omega arith) c.loop-i.invariant.1
+      (sym c.same_name.ensures ∙ c.if-same_name.false),
+)
 
 pub returns : goal.returns
 returns c =

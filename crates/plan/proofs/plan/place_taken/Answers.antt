@@ -1,9 +1,7 @@
 -- `place_taken` meets its contract. The loop's invariant: none of the first `i` places is the place.
 -- Assumes nothing.
-use Prim.Native.Nat.{◌-◌}
 use native.Mathlib.Omega.{arith}
 use mathlib.Core.Path.{◌≡◌, refl, sym, ◌∙◌}
-use mathlib.Core.Bool.{false}
 use Rattle.plan.specs.code.Taken.{is_at, among-more, among_one}
 use Rattle.plan.proofs.plan.place_taken.Goals as goal
 
@@ -19,12 +17,11 @@ returns-then-same_place c =
     (sym c.same_place.ensures ∙ c.if-same_place.true))
 
 pub loop-i-preserved : goal.loop-i-preserved
-loop-i-preserved c =
-    (
-      omega arith,
-      among-more (is_at c.args.place) c.args.places c.loop-i.i _ (omega arith) c.loop-i.invariant.1
-          (sym c.same_place.ensures ∙ c.if-same_place.false),
-    )
+loop-i-preserved c = (
+  omega arith,
+  among-more (is_at c.args.place) c.args.places c.loop-i.i _ (omega arith) c.loop-i.invariant.1
+      (sym c.same_place.ensures ∙ c.if-same_place.false),
+)
 
 pub returns : goal.returns
 returns c =

@@ -2,7 +2,7 @@
 -- Assumes nothing.
 use mathlib.Core.List.{List}
 use mathlib.Core.Path.{◌≡◌, sym, ap, ◌∙◌}
-use Prim.Native.Nat.{ℕ, ◌+◌, ◌-◌}
+use Prim.Native.Nat.{ℕ, ◌+◌}
 use native.Mathlib.Numerals.{add-one}
 use native.Mathlib.Omega.{arith}
 use lib.ListN.{length, get_or, set, take}
@@ -17,7 +17,7 @@ loop-i-init c =
 pub bounds-out-at : goal.bounds-out-at
 bounds-out-at c =
     let kept : length c.loop-i.out ≡ length c.args.out.now =
-        let args = c.args in
+    let args = c.args in
     ap length c.loop-i.invariant.1 ∙ length-paste args.out.now args.at args.text.now c.loop-i.i (omega arith) (omega arith) in
     omega (arith, kept)
 
@@ -34,7 +34,7 @@ loop-i-preserved c =
 pub shape_of-out : goal.shape_of-out
 shape_of-out c =
     let kept : length c.loop-i.out ≡ length c.args.out.now =
-        let args = c.args in
+    let args = c.args in
     ap length c.loop-i.invariant.1 ∙ length-paste args.out.now args.at args.text.now c.loop-i.i (omega arith) (omega arith) in
     kept
 

@@ -9,47 +9,47 @@ use Rattle.plan.proofs.sheet.put_line.Goals as goal
 pub offset_bounds-plan-i : goal.offset_bounds-plan-i
 offset_bounds-plan-i c =
     let prints : Printable c.args.plan =
-        printable c.requires.0 c.requires.1 in
+    printable c.requires.0 c.requires.1 in
     let held : c.args.i < most_sites =
-        omega (arith, c.requires.2, prints.few) in
+    omega (arith, c.requires.2, prints.few) in
     record { fits = omega (arith, held) }
 
 pub bounds-plan-i : goal.bounds-plan-i
 bounds-plan-i c =
     let prints : Printable c.args.plan =
-        printable c.requires.0 c.requires.1 in
+    printable c.requires.0 c.requires.1 in
     let held : c.args.i < most_sites =
-        omega (arith, c.requires.2, prints.few) in
+    omega (arith, c.requires.2, prints.few) in
     held
 
 pub offset_bounds-plan-i-2 : goal.offset_bounds-plan-i-2
 offset_bounds-plan-i-2 c =
     let prints : Printable c.args.plan =
-        printable c.requires.0 c.requires.1 in
+    printable c.requires.0 c.requires.1 in
     let held : c.args.i < most_sites =
-        omega (arith, c.requires.2, prints.few) in
+    omega (arith, c.requires.2, prints.few) in
     record { fits = omega (arith, held) }
 
 pub bounds-plan-i-2 : goal.bounds-plan-i-2
 bounds-plan-i-2 c =
     let prints : Printable c.args.plan =
-        printable c.requires.0 c.requires.1 in
+    printable c.requires.0 c.requires.1 in
     let held : c.args.i < most_sites =
-        omega (arith, c.requires.2, prints.few) in
+    omega (arith, c.requires.2, prints.few) in
     held
 
 pub bounds-plan-i-3 : goal.bounds-plan-i-3
 bounds-plan-i-3 c =
     let prints : Printable c.args.plan =
-        printable c.requires.0 c.requires.1 in
+    printable c.requires.0 c.requires.1 in
     let held : c.args.i < most_sites =
-        omega (arith, c.requires.2, prints.few) in
+    omega (arith, c.requires.2, prints.few) in
     held
 
 pub put_site-requires : goal.put_site-requires
 put_site-requires c =
     let prints : Printable c.args.plan =
-        printable c.requires.0 c.requires.1 in
+    printable c.requires.0 c.requires.1 in
     let print = prints in
     let i = c.args.i in
     let more = c.requires.2 in

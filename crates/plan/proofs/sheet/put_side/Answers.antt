@@ -22,18 +22,18 @@ put_decimal-end-requires c =
 pub put_byte-requires : goal.put_byte-requires
 put_byte-requires c =
     let side : Put c.put_bytes-word.new.out c.put_bytes-word.result (side_text c.args.side) c.match-side.end c.match-side.out =
-        elim c.match-side.branch [
-          in-Number w ↦ rw (w.end-is, w.out-is, w.in-Number.is) w.put_decimal-end.ensures
-        | in-Free w ↦ rw (w.end-is, w.out-is, w.in-Free.is) w.put_bytes-end.ensures
-        ] in
+    elim c.match-side.branch [
+      | in-Number w ↦ rw (w.end-is, w.out-is, w.in-Number.is) w.put_decimal-end.ensures
+      | in-Free w ↦ rw (w.end-is, w.out-is, w.in-Free.is) w.put_bytes-end.ensures
+    ] in
     let line : Put c.args.out.now 0 (side_line c.args.side) c.match-side.end c.match-side.out = put_then c.put_bytes-word.ensures side in
     omega (arith, line.next_is, put-length line, side-text-short c.args.side c.requires.0)
 
 pub returns : goal.returns
 returns c =
     let side : Put c.put_bytes-word.new.out c.put_bytes-word.result (side_text c.args.side) c.match-side.end c.match-side.out =
-        elim c.match-side.branch [
-          in-Number w ↦ rw (w.end-is, w.out-is, w.in-Number.is) w.put_decimal-end.ensures
-        | in-Free w ↦ rw (w.end-is, w.out-is, w.in-Free.is) w.put_bytes-end.ensures
-        ] in
+    elim c.match-side.branch [
+      | in-Number w ↦ rw (w.end-is, w.out-is, w.in-Number.is) w.put_decimal-end.ensures
+      | in-Free w ↦ rw (w.end-is, w.out-is, w.in-Free.is) w.put_bytes-end.ensures
+    ] in
     put_then (put_then c.put_bytes-word.ensures side) c.put_byte.ensures

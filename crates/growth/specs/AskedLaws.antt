@@ -41,7 +41,7 @@ pub above-not : (most n : ℕ) → ltb most n ≡ not (leb n most)
 above-not most n = go (dec_le n most)
   where
     go : Dec (n ≤ most) → ltb most n ≡ not (leb n most)
-    go (yes up_to_lem) = rw (le-leb n most up_to_lem, le-ltb most n up_to_lem)
+    go (yes within) = rw (le-leb n most within, le-ltb most n within)
     go (no above) = let more : most < n = omega arith in rw (lt-leb n most more, lt-ltb most n more)
 
 -- The tests decide whether there is a label to be asked about.

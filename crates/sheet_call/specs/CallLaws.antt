@@ -289,7 +289,7 @@ ways-given = (refl, refl)
 -- The greatest number of 32 bits is free, and every other is so many half units.
 pub sides-given : (side_of 4294967295 ≡ Free)
     × ((number : ℕ) → (number ≡ 4294967295 → ⊥) → side_of number ≡ Number (record { 0 = number }))
-sides-given = (refl, λ number not-Free. rw (ne_eqb number free_number not-Free, side_of))
+sides-given = (refl, λ number not-free. rw (ne_eqb number free_number not-free, side_of))
 
 -- Other numbers are no way and are refused with 3, whatever the list,
 pub no_way : (number : ℕ) (list buffer : List ℕ) → (number ≡ 1 → ⊥) → (number ≡ 2 → ⊥)
@@ -307,9 +307,9 @@ side-refused NoWay side list buffer outside = refl
 -- Such are the numbers below 1 and above 20,000, but for that of free.
 pub no-side : (way : GivenWay) (number : ℕ) (list buffer : List ℕ) → (number ≡ free_number → ⊥) → (number < 1) ⊎ (greatest_side < number)
     → called_at way (side_of number) list buffer ≡ refusal BadNumber buffer
-no-side way number list buffer not-Free outside =
+no-side way number list buffer not-free outside =
     side-refused way (side_of number) list buffer
-    (rw (ne_eqb number free_number not-Free, side_of) (is-outside outside))
+    (rw (ne_eqb number free_number not-free, side_of) (is-outside outside))
   where
     by-least : (least : Bool) → (least && false) ≡ false
     by-least true = refl

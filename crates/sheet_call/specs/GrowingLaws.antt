@@ -33,9 +33,9 @@ pub called-meets : (s : Place) (c : ℕ) (t : Place) (e : ℕ) (before : ℕ) {a
     → number ≡ growth_asked_number asked → after ≡ growth_left asked before
     → (number ≡ growth_asked_number (growth_asked s c t e))
     × ((after ≡ growth_left (growth_asked s c t e) before) × GrowthCalled s c t e before number after)
-called-meets s c t e before Asked-is number_is after_is =
-    let number-so = number_is ∙ ap growth_asked_number Asked-is in
-    let after-so = after_is ∙ ap (λ (a : AskedGrowth). growth_left a before) Asked-is in
+called-meets s c t e before asked-is number_is after_is =
+    let number-so = number_is ∙ ap growth_asked_number asked-is in
+    let after-so = after_is ∙ ap (λ (a : AskedGrowth). growth_left a before) asked-is in
     (number-so, (after-so, rw (number-so, after-so) (called-tells before (asked-tells s c t e))))
 
 -- What the contract says, read back: 0 for two labels that can be asked about, with the growth that the lent number stands for, by which

@@ -130,8 +130,8 @@ module _ (P : Problem) (opens decided : List ℕ) (k j : ℕ) (settled : Settled
         own = closed.elsewhere k (Ne-symm different);
         own_decided = closed.decided_elsewhere k (Ne-symm different);
         carried = λ yes-ok other. carried (closed.some_left yes-ok);
-        stuck_other = λ no_Ok. different;
-        stuck = λ no_Ok e was. ⊎_elim (λ still. absurd ((closed.none_left no_Ok).none_open e still)) (λ x. x) (keeps e was);
+        stuck_other = λ no_ok. different;
+        stuck = λ no_ok e was. ⊎_elim (λ still. absurd ((closed.none_left no_ok).none_open e still)) (λ x. x) (keeps e was);
       }
     where
       keeps : (e : ℕ) → row_of opens j e ≡ 1 → (row_of opens' j e ≡ 1) ⊎ P.Conflict k (corner_at decided k) j e
@@ -292,7 +292,7 @@ module _ {P : Problem} {Looked : ℕ → Type 0} {opens₀ decided₀ : List ℕ
 
     -- A site left with no corner sticks.
     pub carried-stuck : j < P.n → ok ≡ false → CarriedOut P Looked opens₀ decided₀ k false opens' decided'
-    carried-stuck listed no_Ok =
+    carried-stuck listed no_ok =
         let same = below.later j (omega arith) in
         record {
           sizes = there.sizes;
@@ -300,9 +300,9 @@ module _ {P : Problem} {Looked : ℕ → Type 0} {opens₀ decided₀ : List ℕ
           stuck = λ e. record {
             site = j;
             listed = listed;
-            different = there.stuck_other no_Ok;
+            different = there.stuck_other no_ok;
             all_conflict = λ e was.
-                rw below.own.decision at (there.stuck no_Ok e (ap (λ r. r e) same.row ∙ was));
+                rw below.own.decision at (there.stuck no_ok e (ap (λ r. r e) same.row ∙ was));
           };
         }
 

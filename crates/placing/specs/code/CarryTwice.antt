@@ -104,7 +104,7 @@ carried-twice first second =
 pub carried-stuck-at : {P : Problem} {One Two : ℕ → Type 0} {opens decided opens' decided' : List ℕ} {k : ℕ} {ok : Bool} → ok ≡ false
     → CarriedOut P One opens decided k ok opens' decided' → CarriedOut P Two opens decided k false opens' decided'
 carried-stuck-at failed out =
-    record { sizes = out.sizes; carried = λ went. absurd (true≢false (sym went)); stuck = λ no_Ok. out.stuck failed }
+    record { sizes = out.sizes; carried = λ went. absurd (true≢false (sym went)); stuck = λ no_ok. out.stuck failed }
 
 -- Where every open corner in conflict is looked at, the decision is carried out.
 pub carried-every : {P : Problem} {Looked : ℕ → Type 0} {opens decided opens' decided' : List ℕ} {k : ℕ} {ok : Bool}

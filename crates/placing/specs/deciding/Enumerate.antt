@@ -42,7 +42,7 @@ nothing-found (missing none_has) is_none = none_has
 
 pub finds-nothing : {Q : List ℕ → Type 0} {o : Option (List ℕ)} → FirstWith Q o → ((cs : List ℕ) → Q cs → ⊥) → o ≡ none
 finds-nothing (found {cs} has none_before) none_has = absurd (none_has cs has)
-finds-nothing (missing None-found) none_has = refl
+finds-nothing (missing not-found) none_has = refl
 
 -- What a search for good choices finds is the first good choice.
 pub found_first : {way : Way} {h : ℕ} {ps : List Place} {cs : List ℕ} {o : Option (List ℕ)} → FirstWith (Good way h ps) o → o ≡ some cs

@@ -41,7 +41,7 @@ module _ {way : Way} {h : ℕ} {ps : List Place} where
     where
       by-found : {o : Option (List ℕ)} → FirstWith (Good way h ps) o → o ≡ some cs
       by-found (found good none_before) = ap some (first-unique (record { good = good; none_before = none_before }) first)
-      by-found (missing none_good_from_high) = absurd (none_good_from_high cs first.good)
+      by-found (missing no_good) = absurd (no_good cs first.good)
 
   -- where it finds nothing there is no good choice,
   pub first_good-none : first_good way h ps ≡ none → NoneGood way h ps
@@ -53,21 +53,21 @@ module _ {way : Way} {h : ℕ} {ps : List Place} where
 
 -- Where a good choice exists there is a first one.
 pub some_first : {way : Way} {h : ℕ} {ps : List Place} {A : Type 0} → SomeGood way h ps → ((cs : List ℕ) → First way h ps cs → A) → A
-some_first {way} {h} {ps} {A} some_Good next = by-found (finds-first-good way h ps)
+some_first {way} {h} {ps} {A} some_good next = by-found (finds-first-good way h ps)
   where
     by-found : {o : Option (List ℕ)} → FirstWith (Good way h ps) o → A
     by-found (found {cs} good none_before) = next cs (record { good = good; none_before = none_before })
-    by-found (missing none_good_from_high) = absurd (none_good_from_high some_Good.choice some_Good.good)
+    by-found (missing no_good) = absurd (no_good some_good.choice some_good.good)
 
 -- Where h has no good choice no greater side has one.
 none_above : {way : Way} {h : ℕ} {ps : List Place} → NoneGood way h ps → (k : ℕ) → h ≤ k → NoneGood way k ps
-none_above none_good_from_high k greater es good = none_good_from_high es (good-smaller greater good)
+none_above no_good k greater es good = no_good es (good-smaller greater good)
 
 module _ (way : Way) (ps : List Place) (places : Distinct ps) where
   -- A side without a good choice is above 1.
   above-one : (h : ℕ) → NoneGood way (suc h) ps → 1 ≤ h
-  above-one zero none_good_from_high = absurd (none_good_from_high _ (good-one-exists places))
-  above-one (suc h) none_good_from_high = omega arith
+  above-one zero no_good = absurd (no_good _ (good-one-exists places))
+  above-one (suc h) no_good = omega arith
 
   -- What follows a search for good choices at h gives the answer, if it does so after each of its two ends.
   after-search : {h : ℕ} {o : Option (List ℕ)} {done : List ℕ → Answer} {else : Answer} → FirstWith (Good way h ps) o
@@ -80,24 +80,24 @@ module _ (way : Way) (ps : List Place) (places : Distinct ps) where
   greatest-is : (h : ℕ) → 1 ≤ h → h ≤ greatest_side → NoneGood way free_side ps → ((k : ℕ) → h < k → NoneGood way k ps)
       → IsAnswer way ps (greatest way h ps)
   unfolding greatest
-  greatest-is zero least most not-Free above = absurd (omega arith)
-  greatest-is (suc h) least most not-Free above =
-      after-search (finds-first-good way (suc h) ps) (λ cs first. is_number not-Free least most first above)
-      (λ none_here. greatest-is h (above-one h none_here) (omega arith) not-Free (none_above none_here))
+  greatest-is zero least most not-free above = absurd (omega arith)
+  greatest-is (suc h) least most not-free above =
+      after-search (finds-first-good way (suc h) ps) (λ cs first. is_number not-free least most first above)
+      (λ none_here. greatest-is h (above-one h none_here) (omega arith) not-free (none_above none_here))
 
   -- The search gives what document 01 says.
   pub answer-is : IsAnswer way ps (answer_of way ps)
   unfolding answer_of
   answer-is =
       after-search (finds-first-good way free_side ps) (λ cs. is_free)
-      (λ not-Free. greatest-is greatest_side (lit≤ tt) (lit≤ tt) not-Free (none_above not-Free))
+      (λ not-free. greatest-is greatest_side (lit≤ tt) (lit≤ tt) not-free (none_above not-free))
 
 -- There is one answer.
 pub answer-unique : {way : Way} {ps : List Place} {one other : Answer} → IsAnswer way ps one → IsAnswer way ps other → one ≡ other
 answer-unique (is_free first) (is_free first') = ap free (first-unique first first')
-answer-unique (is_free first) (is_number not-Free least most first' above) = absurd (not-Free _ first.good)
-answer-unique (is_number not-Free least most first above) (is_free first') = absurd (not-Free _ first'.good)
-answer-unique {way} {ps} (is_number {h} {cs} not-Free least most first above) (is_number {h = k} {cs = es} not-free' least' most' first' above') =
+answer-unique (is_free first) (is_number not-free least most first' above) = absurd (not-free _ first.good)
+answer-unique (is_number not-free least most first above) (is_free first') = absurd (not-free _ first'.good)
+answer-unique {way} {ps} (is_number {h} {cs} not-free least most first above) (is_number {h = k} {cs = es} not-free' least' most' first' above') =
     let side : h ≡ k = same-side (dec_lt h k) (dec_lt k h) in
     let corners : cs ≡ es = first-unique (subst (λ j. First way j ps cs) side first) first' in
     λ i. numbered (side i) (corners i)
@@ -124,21 +124,21 @@ answer-free places first = sym (is-answer-of places (is_free first))
 -- So the answer's side is one that has a good choice while the next side has none,
 pub side-found : {way : Way} {ps : List Place} {h : ℕ} → Distinct ps → 1 ≤ h → h ≤ greatest_side → SomeGood way h ps
     → NoneGood way (suc h) ps → (answer_of way ps).side ≡ Number (record { 0 = h })
-side-found places least most some_Good none-next =
-    some_first some_Good (λ cs first. ap (λ (a : Answer). a.side) (answer-found places least most first none-next))
+side-found places least most some_good none-next =
+    some_first some_good (λ cs first. ap (λ (a : Answer). a.side) (answer-found places least most first none-next))
 
 -- and free where one exists at 20,001.
 pub side-free : {way : Way} {ps : List Place} → Distinct ps → SomeGood way free_side ps → (answer_of way ps).side ≡ Free
-side-free places some_Good = some_first some_Good (λ cs first. ap (λ (a : Answer). a.side) (answer-free places first))
+side-free places some_good = some_first some_good (λ cs first. ap (λ (a : Answer). a.side) (answer-free places first))
 
 module _ {way : Way} {ps : List Place} {h : ℕ} {cs : List ℕ} where
   -- The corners of a numbered answer are a good choice at its side,
   pub answer-good : IsAnswer way ps (numbered h cs) → Good way h ps cs
-  answer-good (is_number not-Free least most first above) = first.good
+  answer-good (is_number not-free least most first above) = first.good
 
   -- and no good choice exists at any greater side.
   pub answer-none-above : IsAnswer way ps (numbered h cs) → (k : ℕ) → h < k → NoneGood way k ps
-  answer-none-above (is_number not-Free least most first above) = above
+  answer-none-above (is_number not-free least most first above) = above
 
 -- The corners of a free answer are a good choice at every side.
 pub free-good : {way : Way} {ps : List Place} {cs : List ℕ} → InRange ps → IsAnswer way ps (free cs) → (h : ℕ) → Good way h ps cs

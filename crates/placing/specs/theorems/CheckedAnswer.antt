@@ -85,7 +85,7 @@ pruned-same way h ps = by-found (pruned-first way h ps)
   where
     by-found : {o : Option (List ℕ)} → FirstWith (Good way h ps) o → o ≡ first_good way h ps
     by-found (found good none_before) = sym (first_found (record { good = good; none_before = none_before }))
-    by-found (missing none_good_from_high) = sym (none_found none_good_from_high)
+    by-found (missing no_good) = sym (none_found no_good)
 
 -- An answer that passes its test is the answer.
 pub checked-right : (way : Way) (ps : List Place) (answer : Answer) → T (checked_test way ps answer) → answer_of way ps ≡ answer

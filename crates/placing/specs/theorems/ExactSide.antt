@@ -43,4 +43,4 @@ exact-side h ps none_good p q greater cs uppers = go (decided (meeting-decides p
 -- The same for an answer whose side is a number.
 pub answer-exact : {ps : List Place} {h : ℕ} {cs : List ℕ} → IsAnswer Above ps (numbered h cs)
     → (p q : ℕ) → h * q < p → (es : List ℕ) → UpperCorners (length ps) es → MeetingPair p q ps es
-answer-exact {ps} {h} (is_number not-Free least most first none_greater) = exact-side h ps (none_greater (suc h) (omega arith))
+answer-exact {ps} {h} (is_number not-free least most first none_greater) = exact-side h ps (none_greater (suc h) (omega arith))

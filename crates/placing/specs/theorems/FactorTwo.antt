@@ -58,4 +58,4 @@ twice-the-side h ps some-h none_good p q some-q twice cs corners = go (decided (
 -- The same for an answer whose side is a number.
 pub answer-twice : {ps : List Place} {h : ℕ} {cs : List ℕ} → IsAnswer Usual ps (numbered h cs)
     → (p q : ℕ) → 1 ≤ q → 2 * h * q < p → (es : List ℕ) → Corners (length ps) es → MeetingPair p q ps es
-answer-twice {ps} {h} (is_number not-Free least most first above) = twice-the-side h ps least (above (suc h) (omega arith))
+answer-twice {ps} {h} (is_number not-free least most first above) = twice-the-side h ps least (above (suc h) (omega arith))

@@ -62,11 +62,11 @@ module _ {way : Way} {ps : List Place} where
 
   -- A good choice exists exactly where the search finds one.
   pub some-found : {h : ℕ} → SomeGood way h ps → is_some (first_good way h ps) ≡ true
-  some-found {h} some_Good = by-search (first_good way h ps) refl
+  some-found {h} some_good = by-search (first_good way h ps) refl
     where
       by-search : (o : Option (List ℕ)) → first_good way h ps ≡ o → is_some o ≡ true
       by-search (some cs) is = refl
-      by-search none is = absurd (first_good-none is some_Good.choice some_Good.good)
+      by-search none is = absurd (first_good-none is some_good.choice some_good.good)
 
 pub found_some : (way : Way) (h : ℕ) (ps : List Place) → is_some (first_good way h ps) ≡ true → SomeGood way h ps
 found_some way h ps = by-search (first_good way h ps) refl
@@ -80,7 +80,7 @@ found_some way h ps = by-search (first_good way h ps) refl
 -- The answer is what choosing at its side gives.
 pub answer-chosen : {way : Way} {ps : List Place} {answer : Answer} → IsAnswer way ps answer → IsChosen way ps answer
 answer-chosen (is_free first) = record { given = refl; first = first }
-answer-chosen (is_number not-Free least most first above) = record { given = in_range least most; first = first }
+answer-chosen (is_number not-free least most first above) = record { given = in_range least most; first = first }
 
 -- What is chosen at the side of the answer is the answer.
 pub chosen-answer : {way : Way} {ps : List Place} {chosen answer : Answer} → IsAnswer way ps answer → IsChosen way ps chosen
@@ -108,4 +108,4 @@ module _ {way : Way} {ps : List Place} (places : Distinct ps) where
     where
       by_answer : {answer : Answer} → IsAnswer way ps answer → judged_at answer.side < h → h ≤ free_side → NoneGood way h ps
       by_answer (is_free first) above judged = absurd (omega arith)
-      by_answer (is_number not-Free least most first none_above) above judged = none_above h above
+      by_answer (is_number not-free least most first none_above) above judged = none_above h above

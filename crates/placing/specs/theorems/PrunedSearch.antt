@@ -66,7 +66,7 @@ module _ (way : Way) (h : ℕ) (ps : List Place) where
     where
       by_order : (pair : MeetingPair h 1 ps cs) → Dec (pair.first < pair.second) → ⊥
       by_order pair (yes earlier) = (fit pair.second pair.second_listed).apart pair.first earlier pair.meet
-      by_order pair (no not-Earlier) =
+      by_order pair (no not-earlier) =
           (fit pair.first pair.first_listed).apart pair.second (omega (arith, pair.different)) (meet-symmetric pair.meet)
 
   -- Whether a site's corner fits depends on the corners up to it alone.
@@ -103,7 +103,7 @@ module _ (way : Way) (h : ℕ) (ps : List Place) where
 
     -- The corners that follow c change nothing up to c.
     same-up-to : (cs : List ℕ) (j : ℕ) → j ≤ length before → corner_at (before ++ c ∷ []) j ≡ corner_at (before ++ c ∷ cs) j
-    same-up-to cs j up_to_lem =
+    same-up-to cs j within =
         subst (λ l. corner_at (before ++ c ∷ []) j ≡ corner_at l j) (append_snoc before c cs)
         (sym (get_or-append (before ++ c ∷ []) cs 0 j (omega (arith, one_more))))
 
@@ -119,7 +119,7 @@ module _ (way : Way) (h : ℕ) (ps : List Place) where
     by-fit false fit listed rest =
         missing (λ cs r.
         fit.no_fails refl
-        (fits-same (λ j up_to_lem. sym (same-up-to cs j up_to_lem)) (r.1.fits-from (length before) (omega arith) listed)))
+        (fits-same (λ j within. sym (same-up-to cs j within)) (r.1.fits-from (length before) (omega arith) listed)))
 
   -- Going on finds the first such corners.
   goes_on : (n : ℕ) (before : List ℕ) → length before + n ≡ length ps → FirstWith (FitAfter n before) (go_on way h ps n before)

@@ -80,7 +80,7 @@ covers-in-square some covers axis =
 module _ (p q p' q' : ℕ) (some-p : 1 ≤ p) (some-q : 1 ≤ q) (some_parts : 1 ≤ q') (smaller : p' * q < p * q') where
   -- What lies in the smaller closed square along an axis lies within the larger label there.
   up-to-within : {d : Direction} {a : ℕ} {t : Fraction} → UpTo p' q' d a t → Within p q d a t
-  up-to-within {d} {a} {t} up_to_lem = record { onward = up_to_lem.onward; near = less-far (dist (moved a t) t.plus) up_to_lem.near }
+  up-to-within {d} {a} {t} within = record { onward = within.onward; near = less-far (dist (moved a t) t.plus) within.near }
     where
       less-far : (x : ℕ) → x * q' ≤ p' * t.parts → x * q < p * t.parts
       less-far x no-further =

@@ -43,9 +43,9 @@ twelve-last side n bytes given some_sites room = rw (given, ne_eqb n 0 some_site
 -- 12 is given only where no good choice exists at the side.
 pub twelve-none : (plan : Plan) (way : Way) (side : Side) (table : List ℕ) → outcome_number (chosen_in plan way side table).outcome ≡ 12
     → SomeGood way (judged_at side) (places_of (sites_in plan)) → ⊥
-twelve-none plan way side table twelve some_Good =
+twelve-none plan way side table twelve some_good =
     by_tests (not (is_side side)) (eqb plan.count 0) (ltb (length table) (plan.count * plan.count)) (exists_at way side (sites_in plan))
-    (some-found some_Good) twelve
+    (some-found some_good) twelve
   where
     by_tests : (a b c e : Bool) → e ≡ true
         → outcome_number
@@ -108,7 +108,7 @@ module _ (plan : Plan) (table : List ℕ) (some_sites : plan.count ≡ 0 → ⊥
     pub chosen-done : {way : Way} → SomeGood way (judged_at side) (places_of (sites_in plan))
         → chosen_in plan way side table
         ≡ record { outcome = Done; plan = placed_with (sites_in plan) way (chosen_at way side (places_of (sites_in plan))) }
-    chosen-done {way} some_Good = ap (handed (placed_with (sites_in plan) way) plan) (chosen-tested way (some-found some_Good))
+    chosen-done {way} some_good = ap (handed (placed_with (sites_in plan) way) plan) (chosen-tested way (some-found some_good))
 
     -- where none does, 12 is given.
     pub chosen_none : {way : Way} → (SomeGood way (judged_at side) (places_of (sites_in plan)) → ⊥)
@@ -131,7 +131,7 @@ module _ (plan : Plan) (table : List ℕ) (some_sites : plan.count ≡ 0 → ⊥
       pub above-refused : judged_at (answer_of way (places_of (sites_in plan))).side < judged_at side
           → chosen_in plan way side table ≡ record { outcome = Refused NoGoodChoice; plan = plan }
       above-refused above =
-          chosen_none (λ some_Good. above-found places above (judged-range side given).1 some_Good.choice some_Good.good)
+          chosen_none (λ some_good. above-found places above (judged-range side given).1 some_good.choice some_good.good)
 
 -- A cleared table is as long as it was.
 cleared-length : (n : ℕ) (table : List ℕ) → n * n ≤ length table → length (cleared n table) ≡ length table

@@ -88,10 +88,10 @@ refused-no-sheet {way} {side} (none_good given sites accepts none) for =
 -- Nor is it refused where its sites have a good choice at a side that can be given.
 refused-not-chosen : {way : Way} {side : Side} {text : List ℕ} {sites : List Site} {n : ℕ} → RefusedAt way side text n → Accepts text sites
     → is_side side ≡ true → SomeGood way (judged_at side) (places_of sites) → ⊥
-refused-not-chosen (out_of_range r) accepts given some_Good = true≢false (sym given ∙ r)
-refused-not-chosen (refused_list given' r) accepts given some_Good = refused-list-not-accepted r accepts
-refused-not-chosen {way} {side} (none_good given' others accepts' none) accepts given some_Good =
-    none (subst (λ (l : List Site). SomeGood way (judged_at side) (places_of l)) (accepted-same accepts accepts') some_Good)
+refused-not-chosen (out_of_range r) accepts given some_good = true≢false (sym given ∙ r)
+refused-not-chosen (refused_list given' r) accepts given some_good = refused-list-not-accepted r accepts
+refused-not-chosen {way} {side} (none_good given' others accepts' none) accepts given some_good =
+    none (subst (λ (l : List Site). SomeGood way (judged_at side) (places_of l)) (accepted-same accepts accepts') some_good)
 
 -- So two outputs for the same text by the same way at the same side are one.
 pub answered-at-one : {way : Way} {side : Side} {text one other : List ℕ} → AnsweredAt way side text one → AnsweredAt way side text other

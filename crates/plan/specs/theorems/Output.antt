@@ -200,7 +200,7 @@ text-to-place-at way side text = by_side (is_side side) refl
         → ToPlaceAt way side text (unless (elim (not exists) [ true ↦ some NoGoodChoice | false ↦ none ]) sites)
     by-choice given sites accepts true there = is_placed_at accepts (chosen_is way (places_of sites) side given there)
     by-choice given sites accepts false there =
-        not_placed_at (none_good given sites accepts (λ some_Good. true≢false (sym (some-found some_Good) ∙ there)))
+        not_placed_at (none_good given sites accepts (λ some_good. true≢false (sym (some-found some_good) ∙ there)))
 
     by-sites : is_side side ≡ true → (read : Result (List Site)) → read_list text ≡ read
         → ToPlaceAt way side text (after read (λ sites. after_tests (no_sites (length sites) ∷ no_good (exists_at way side sites) ∷ []) sites))

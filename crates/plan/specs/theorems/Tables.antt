@@ -79,7 +79,7 @@ table-tells [] = no_row (record { none_holds = λ i below. absurd (omega arith) 
 table-tells (test ∷ tests) = by-test test.holds refl (table-tells tests)
   where
     later : {number : ℕ} → test.holds ≡ false → Tells tests number → Tells (test ∷ tests) number
-    later fails (a_row Some-number first) = a_row Some-number (row-later fails first)
+    later fails (a_row some-number first) = a_row some-number (row-later fails first)
     later fails (no_row rest) = no_row (no-row-later fails rest)
 
     by-test : (b : Bool) → test.holds ≡ b → Tells tests (number_by tests)
@@ -151,8 +151,8 @@ tells-one tests {n} {m} (a_row some-n f) (a_row some-m g) = by_order (dec_lt f.r
   where
     by_order : Dec (f.row < g.row) → Dec (g.row < f.row) → n ≡ m
     by_order (yes earlier) other = absurd (no_both f.holds (g.none_earlier f.row earlier))
-    by_order (no not-Earlier) (yes later) = absurd (no_both g.holds (f.none_earlier g.row later))
-    by_order (no not-Earlier) (no not-later) =
+    by_order (no not-earlier) (yes later) = absurd (no_both g.holds (f.none_earlier g.row later))
+    by_order (no not-earlier) (no not-later) =
         let same : f.row ≡ g.row = omega arith in
         sym f.number_is ∙ ap (λ (i : ℕ). number_of (row_at tests i).refusal) same ∙ g.number_is
 tells-one tests (a_row some-n f) (no_row rest) = absurd (no_both f.holds (rest.none_holds f.row f.listed))

@@ -21,7 +21,7 @@ inside : {text : List ℕ} {stop : Stop} {line : RefusedLine} → StopTold text 
 inside told is = omega (arith, line-inside (subst (StopTold _) is told))
 
 pub slice_bounds-hint_for-count : goal.slice_bounds-hint_for-count
-slice_bounds-hint_for-count c = inside c.refused_line-stop.ensures c.in-AtLine.is
+slice_bounds-hint_for-count c = omega (arith, inside c.refused_line-stop.ensures c.in-AtLine.is)
 
 pub slice_bounds-hint_for-start : goal.slice_bounds-hint_for-start
 slice_bounds-hint_for-start c = omega (arith, inside c.refused_line-stop.ensures c.in-AtLine.is)

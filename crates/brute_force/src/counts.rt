@@ -1,6 +1,7 @@
 // What was counted over all lists.
 use crate::sites::FREE;
 use placing::way::Way;
+use std::io;
 
 // By one way.
 #[derive(Clone, Copy)]
@@ -78,44 +79,35 @@ pub fn is_odd(side: u64) -> bool {
     if is_free(side) { false } else { side % 2 == 1 }
 }
 
-pub fn print_way(way: Way) {
+pub fn print_way(rt: &impl Print, way: Way) -> io::Result<()> {
     match way {
-        Way::Usual => {
-            io::write_all(1, b"usual way");
-        }
-        Way::Above => {
-            io::write_all(1, b"above");
-        }
+        Way::Usual => print!(rt; "usual way"),
+        Way::Above => print!(rt; "above"),
     }
 }
 
-fn print_count(number: u64, what: &[u8]) {
-    io::print_decimal(1, number);
-    io::write_all(1, what);
+fn print_counts(rt: &impl Print, way: Way, counts: Counts) -> io::Result<()> {
+    print_way(rt, way)?;
+    println!(rt; ":")?;
+    println!(rt; "{} lists", counts.lists)?;
+    println!(rt; "{} free", counts.free)?;
+    println!(rt; "{} with an even side", counts.even)?;
+    println!(rt; "{} with an odd side", counts.odd)?;
+    println!(rt; "{} differences", counts.differences)?;
+    println!(rt; "{} given sides", counts.given)?;
+    println!(rt; "{} without a good choice", counts.without)?;
+    println!(rt; "{} differences there", counts.differences_at)
 }
 
-fn print_counts(way: Way, counts: Counts) {
-    print_way(way);
-    io::write_all(1, b":\n");
-    print_count(counts.lists, b" lists\n");
-    print_count(counts.free, b" free\n");
-    print_count(counts.even, b" with an even side\n");
-    print_count(counts.odd, b" with an odd side\n");
-    print_count(counts.differences, b" differences\n");
-    print_count(counts.given, b" given sides\n");
-    print_count(counts.without, b" without a good choice\n");
-    print_count(counts.differences_at, b" differences there\n");
-}
-
-pub fn print_tally(tally: Tally) {
-    print_counts(Way::Usual, tally.usual);
-    print_count(tally.in_one_row, b" in one straight row\n");
-    print_count(
-        tally.over_twice,
-        b" with a choice that holds at 2 x side + 1\n",
-    );
-    print_counts(Way::Above, tally.above);
-    print_count(tally.smaller, b" with a smaller side than the usual way\n");
-    print_count(tally.same, b" with the same side\n");
-    print_count(tally.greater, b" with a greater side\n");
+pub fn print_tally(rt: &impl Print, tally: Tally) -> io::Result<()> {
+    print_counts(rt, Way::Usual, tally.usual)?;
+    println!(rt; "{} in one straight row", tally.in_one_row)?;
+    println!(rt;
+        "{} with a choice that holds at 2 x side + 1",
+        tally.over_twice
+    )?;
+    print_counts(rt, Way::Above, tally.above)?;
+    println!(rt; "{} with a smaller side than the usual way", tally.smaller)?;
+    println!(rt; "{} with the same side", tally.same)?;
+    println!(rt; "{} with a greater side", tally.greater)
 }

@@ -86,28 +86,33 @@ pub fn print_way(rt: &impl Print, way: Way) -> io::Result<()> {
     }
 }
 
+fn print_count(rt: &impl Print, number: u64, what: &str) -> io::Result<()> {
+    println!(rt; "{number} {what}")
+}
+
 fn print_counts(rt: &impl Print, way: Way, counts: Counts) -> io::Result<()> {
     print_way(rt, way)?;
     println!(rt; ":")?;
-    println!(rt; "{} lists", counts.lists)?;
-    println!(rt; "{} free", counts.free)?;
-    println!(rt; "{} with an even side", counts.even)?;
-    println!(rt; "{} with an odd side", counts.odd)?;
-    println!(rt; "{} differences", counts.differences)?;
-    println!(rt; "{} given sides", counts.given)?;
-    println!(rt; "{} without a good choice", counts.without)?;
-    println!(rt; "{} differences there", counts.differences_at)
+    print_count(rt, counts.lists, "lists")?;
+    print_count(rt, counts.free, "free")?;
+    print_count(rt, counts.even, "with an even side")?;
+    print_count(rt, counts.odd, "with an odd side")?;
+    print_count(rt, counts.differences, "differences")?;
+    print_count(rt, counts.given, "given sides")?;
+    print_count(rt, counts.without, "without a good choice")?;
+    print_count(rt, counts.differences_at, "differences there")
 }
 
 pub fn print_tally(rt: &impl Print, tally: Tally) -> io::Result<()> {
     print_counts(rt, Way::Usual, tally.usual)?;
-    println!(rt; "{} in one straight row", tally.in_one_row)?;
-    println!(rt;
-        "{} with a choice that holds at 2 x side + 1",
-        tally.over_twice
+    print_count(rt, tally.in_one_row, "in one straight row")?;
+    print_count(
+        rt,
+        tally.over_twice,
+        "with a choice that holds at 2 x side + 1",
     )?;
     print_counts(rt, Way::Above, tally.above)?;
-    println!(rt; "{} with a smaller side than the usual way", tally.smaller)?;
-    println!(rt; "{} with the same side", tally.same)?;
-    println!(rt; "{} with a greater side", tally.greater)
+    print_count(rt, tally.smaller, "with a smaller side than the usual way")?;
+    print_count(rt, tally.same, "with the same side")?;
+    print_count(rt, tally.greater, "with a greater side")
 }

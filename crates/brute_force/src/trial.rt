@@ -17,11 +17,12 @@ use test_text::within;
 // Sides are given for lists of at most so many sites: with more, trying every list of corners at each would take long.
 const MOST_GIVEN: usize = 5;
 
-fn print_list(rt: &impl Print, sites: Sites) -> io::Result<()>
+fn print_list(rt: &impl Print, why: &str, sites: Sites) -> io::Result<()>
     requires { sites.n ≤ 7 }
 {
     let mut list = [0u8; LIST_BYTES];
     let len = put_list(&mut list, sites);
+    println!(rt; "{why}")?;
     rt.write_all(&list[..len])
 }
 
@@ -34,8 +35,7 @@ fn unequal(rt: &impl Print, sites: Sites, way: Way, came: &[u8], should: &[u8]) 
     }
     print!(rt; "difference, ")?;
     print_way(rt, way)?;
-    println!(rt)?;
-    print_list(rt, sites)?;
+    print_list(rt, "", sites)?;
     println!(rt; "should be")?;
     rt.write_all(should)?;
     println!(rt; "came")?;
@@ -80,8 +80,7 @@ fn over_twice(rt: &impl Print, sites: Sites, side: u64) -> io::Result<bool>
     if !holds_over_twice(sites, side) {
         return Ok(false);
     }
-    println!(rt; "a choice holds at 2 x side + 1")?;
-    print_list(rt, sites)?;
+    print_list(rt, "a choice holds at 2 x side + 1", sites)?;
     Ok(true)
 }
 

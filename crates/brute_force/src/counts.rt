@@ -1,6 +1,7 @@
 // What was counted over all lists.
 use crate::sites::FREE;
 use placing::way::Way;
+use std::io;
 
 // By one way.
 #[derive(Clone, Copy)]
@@ -78,44 +79,40 @@ pub fn is_odd(side: u64) -> bool {
     if is_free(side) { false } else { side % 2 == 1 }
 }
 
-pub fn print_way(way: Way) {
+pub fn print_way(rt: &impl Print, way: Way) -> io::Result<()> {
     match way {
-        Way::Usual => {
-            io::write_all(1, b"usual way");
-        }
-        Way::Above => {
-            io::write_all(1, b"above");
-        }
+        Way::Usual => print!(rt; "usual way"),
+        Way::Above => print!(rt; "above"),
     }
 }
 
-fn print_count(number: u64, what: &[u8]) {
-    io::print_decimal(1, number);
-    io::write_all(1, what);
+fn print_count(rt: &impl Print, number: u64, what: &str) -> io::Result<()> {
+    println!(rt; "{number} {what}")
 }
 
-fn print_counts(way: Way, counts: Counts) {
-    print_way(way);
-    io::write_all(1, b":\n");
-    print_count(counts.lists, b" lists\n");
-    print_count(counts.free, b" free\n");
-    print_count(counts.even, b" with an even side\n");
-    print_count(counts.odd, b" with an odd side\n");
-    print_count(counts.differences, b" differences\n");
-    print_count(counts.given, b" given sides\n");
-    print_count(counts.without, b" without a good choice\n");
-    print_count(counts.differences_at, b" differences there\n");
+fn print_counts(rt: &impl Print, way: Way, counts: Counts) -> io::Result<()> {
+    print_way(rt, way)?;
+    println!(rt; ":")?;
+    print_count(rt, counts.lists, "lists")?;
+    print_count(rt, counts.free, "free")?;
+    print_count(rt, counts.even, "with an even side")?;
+    print_count(rt, counts.odd, "with an odd side")?;
+    print_count(rt, counts.differences, "differences")?;
+    print_count(rt, counts.given, "given sides")?;
+    print_count(rt, counts.without, "without a good choice")?;
+    print_count(rt, counts.differences_at, "differences there")
 }
 
-pub fn print_tally(tally: Tally) {
-    print_counts(Way::Usual, tally.usual);
-    print_count(tally.in_one_row, b" in one straight row\n");
+pub fn print_tally(rt: &impl Print, tally: Tally) -> io::Result<()> {
+    print_counts(rt, Way::Usual, tally.usual)?;
+    print_count(rt, tally.in_one_row, "in one straight row")?;
     print_count(
+        rt,
         tally.over_twice,
-        b" with a choice that holds at 2 x side + 1\n",
-    );
-    print_counts(Way::Above, tally.above);
-    print_count(tally.smaller, b" with a smaller side than the usual way\n");
-    print_count(tally.same, b" with the same side\n");
-    print_count(tally.greater, b" with a greater side\n");
+        "with a choice that holds at 2 x side + 1",
+    )?;
+    print_counts(rt, Way::Above, tally.above)?;
+    print_count(rt, tally.smaller, "with a smaller side than the usual way")?;
+    print_count(rt, tally.same, "with the same side")?;
+    print_count(rt, tally.greater, "with a greater side")
 }

@@ -18,15 +18,16 @@ use crate::counts::{Tally, print_tally};
 use crate::random::SEED;
 use crate::trial::trial;
 use crate::wrong::print_wrong;
+use std::io;
 
 const LISTS: u32 = 4_000;
 
-fn main() {
+fn main(rt: HostRuntime) -> io::Result<()> {
     let mut state = SEED;
     let mut tally = Tally::none();
     for _ in 0..LISTS {
-        tally = trial(&mut state, tally);
+        tally = trial(&rt, &mut state, tally)?;
     }
-    print_tally(tally);
-    print_wrong();
+    print_tally(&rt, tally)?;
+    print_wrong(&rt)
 }

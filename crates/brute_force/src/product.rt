@@ -1,6 +1,6 @@
 // The product's output by a way, through list text.
 ghost use Rattle.std.specs.Prelude.{◌≤◌};
-ghost use Rattle.io.specs.Counts.{IsPrefixLen};
+ghost use Rattle.test_text.specs.Counts.{IsPrefixLen};
 
 use crate::sheet::put_size;
 use crate::sites::Sites;

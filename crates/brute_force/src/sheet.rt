@@ -1,6 +1,6 @@
 // The sheet of an answer, written from document 01 alone.
 ghost use Rattle.std.specs.Prelude.{◌<◌, ◌≤◌, length};
-ghost use Rattle.io.specs.Counts.{IsPrefixLen};
+ghost use Rattle.test_text.specs.Counts.{IsPrefixLen};
 
 use crate::sites::{Answer, FREE, Place, Sites, is_none};
 use crate::text::put_site;

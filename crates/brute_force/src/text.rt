@@ -1,6 +1,6 @@
 // A list as text. The sites are named A, B, C and so on.
 ghost use Rattle.std.specs.Prelude.{◌<◌, ◌≤◌, length};
-ghost use Rattle.io.specs.Counts.{IsPrefixLen};
+ghost use Rattle.test_text.specs.Counts.{IsPrefixLen};
 
 use crate::sites::{Place, Sites};
 use test_text::{put, put_decimal};

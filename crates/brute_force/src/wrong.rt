@@ -7,6 +7,7 @@ use crate::counts::{Counts, Tally, print_tally};
 use crate::sites::{Answer, Place, Sites};
 use crate::trial::{judged, judged_at};
 use placing::way::Way;
+use std::io;
 
 fn column() -> Sites
     ensures { result.n ≤ 7 }
@@ -47,44 +48,48 @@ fn answer(side: u64, a: u8, b: u8, c: u8) -> Answer
 
 // Judges by three answers at given sides: other corners, corners where no choice is good, and none where one is.
 fn judged_at_sides(
+    rt: &impl Print,
     counts: Counts,
     way: Way,
     other: Answer,
     corners: Answer,
     none: Answer,
-) -> Counts {
-    let one = judged_at(counts, column(), way, other);
-    let two = judged_at(one, column(), way, corners);
-    judged_at(two, column(), way, none)
+) -> io::Result<Counts> {
+    let one = judged_at(rt, counts, column(), way, other)?;
+    let two = judged_at(rt, one, column(), way, corners)?;
+    judged_at(rt, two, column(), way, none)
 }
 
 // At the side found: first a side that is too small by one, so that a choice holds at twice it and one more, and above the spot the usual
 // answer; then another last corner. At the given side above the spot, the other corners are the usual ones there.
-pub fn print_wrong() {
-    io::write_all(1, b"meant to come out wrong:\n");
+pub fn print_wrong(rt: &impl Print) -> io::Result<()> {
+    println!(rt; "meant to come out wrong:")?;
     let one = judged(
+        rt,
         Tally::none(),
         column(),
         answer(5, 3, 1, 1),
         answer(6, 3, 1, 1),
-    );
-    let mut two = judged(one, column(), answer(6, 3, 1, 2), answer(8, 1, 1, 2));
+    )?;
+    let mut two = judged(rt, one, column(), answer(6, 3, 1, 2), answer(8, 1, 1, 2))?;
     let usual = judged_at_sides(
+        rt,
         two.usual,
         Way::Usual,
         answer(5, 1, 1, 1),
         answer(7, 3, 1, 1),
         answer(6, 0, 0, 0),
-    );
+    )?;
     let above = judged_at_sides(
+        rt,
         two.above,
         Way::Above,
         answer(5, 3, 1, 1),
         answer(9, 1, 1, 1),
         answer(8, 0, 0, 0),
-    );
+    )?;
     two.usual = usual;
     two.above = above;
-    let last = judged(two, seven(), answer(1, 1, 1, 1), answer(1, 1, 1, 1));
-    print_tally(last);
+    let last = judged(rt, two, seven(), answer(1, 1, 1, 1), answer(1, 1, 1, 1))?;
+    print_tally(rt, last)
 }

@@ -1,4 +1,5 @@
 // Cases: each is asked, printed as a line and counted.
+ghost use Rattle.std.specs.Prelude.{IfOk};
 ghost use Rattle.plan.specs.calls.Plan.{Valid};
 
 use crate::calls::{State, answered};
@@ -6,6 +7,7 @@ use crate::question::question_in;
 use crate::sites::lines;
 use crate::words::{first, from};
 use plan::limits::TextLimits;
+use std::io;
 use std::num::wrapping_add_u64;
 use test_text::within;
 
@@ -17,30 +19,27 @@ struct Tally {
 }
 
 // Prints whether the answer is the one that should have come, and counts the case.
-fn judged(tally: Tally, came: &[u8], should: &[u8]) -> Tally {
-    io::write_all(1, came);
+fn judged(rt: &impl Print, tally: Tally, came: &[u8], should: &[u8]) -> io::Result<Tally> {
+    rt.write_all(came)?;
     if check::same(came, should) {
-        io::write_all(1, b"\tright\n");
-        return Tally {
+        println!(rt; "\tright")?;
+        return Ok(Tally {
             asked: wrapping_add_u64(tally.asked, 1),
             right: wrapping_add_u64(tally.right, 1),
-        };
+        });
     }
-    io::write_all(1, b"\tWRONG, should be ");
-    io::write_all(1, should);
-    io::write_all(1, b"\n");
-    Tally {
+    print!(rt; "\tWRONG, should be ")?;
+    rt.write_all(should)?;
+    println!(rt)?;
+    Ok(Tally {
         asked: wrapping_add_u64(tally.asked, 1),
         right: tally.right,
-    }
+    })
 }
 
 // The last line.
-fn print_tally(tally: Tally) {
-    io::print_decimal(1, tally.asked);
-    io::write_all(1, b" cases, ");
-    io::print_decimal(1, tally.right);
-    io::write_all(1, b" right\n");
+fn print_tally(rt: &impl Print, tally: Tally) -> io::Result<()> {
+    println!(rt; "{} cases, {} right", tally.asked, tally.right)
 }
 
 // How far the cases are: the plan that they act on, and the tally.
@@ -51,9 +50,15 @@ struct Course {
 }
 
 // Asks a question, and judges its answer by what it should be.
-fn asked(course: Course, words: &[u8], should: &[u8], room: &mut [u8]) -> Course
+fn asked(
+    rt: &impl Print,
+    course: Course,
+    words: &[u8],
+    should: &[u8],
+    room: &mut [u8],
+) -> io::Result<Course>
     requires { Valid course.state.plan }
-    ensures { Valid result.state.plan }
+    ensures { IfOk result (λ asked. Valid asked.state.plan) }
 {
     let mut text = lines();
     let question = question_in(words, &mut text);
@@ -62,31 +67,28 @@ fn asked(course: Course, words: &[u8], should: &[u8], room: &mut [u8]) -> Course
     let before = course.state;
     let state = answered(before, question, &text[..n], room, &mut said);
     let m = within(state.said, &said);
-    io::write_all(1, words);
-    io::write_all(1, b"= ");
-    let tally = course.tally;
-    Course {
-        state,
-        tally: judged(tally, &said[..m], should),
-    }
+    rt.write_all(words)?;
+    print!(rt; "= ")?;
+    let tally = judged(rt, course.tally, &said[..m], should)?;
+    Ok(Course { state, tally })
 }
 
 // Asks the question of a line, or prints a line that has none.
-fn asked_line(course: Course, line: &[u8], room: &mut [u8]) -> Course
+fn asked_line(rt: &impl Print, course: Course, line: &[u8], room: &mut [u8]) -> io::Result<Course>
     requires { Valid course.state.plan }
-    ensures { Valid result.state.plan }
+    ensures { IfOk result (λ asked. Valid asked.state.plan) }
 {
     let end = first(line, b'=');
     if end == line.len() {
-        io::write_all(1, line);
-        io::write_all(1, b"\n");
-        return course;
+        rt.write_all(line)?;
+        println!(rt)?;
+        return Ok(course);
     }
-    asked(course, &line[..end], from(line, end + 2), room)
+    asked(rt, course, &line[..end], from(line, end + 2), room)
 }
 
 // Goes through the cases.
-pub fn asked_all(cases: &[u8]) {
+pub fn asked_all(rt: &impl Print, cases: &[u8]) -> io::Result<()> {
     let mut room = [0u8; TextLimits::TABLE];
     let mut course = Course {
         state: State::new(),
@@ -95,8 +97,8 @@ pub fn asked_all(cases: &[u8]) {
     let mut at = 0;
     while at < cases.len() {
         let end = at + first(from(cases, at), b'\n');
-        course = asked_line(course, &cases[at..end], &mut room);
+        course = asked_line(rt, course, &cases[at..end], &mut room)?;
         at = end + 1;
     }
-    print_tally(course.tally);
+    print_tally(rt, course.tally)
 }

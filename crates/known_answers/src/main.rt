@@ -3,6 +3,8 @@
 // they are. The questions are asked of one plan, one after another.
 #![tactic(auto)]
 
+ghost use Rattle.std.specs.Io.{ReadsAtMost};
+
 mod answers;
 mod calls;
 mod cases;
@@ -13,10 +15,27 @@ mod sites;
 mod words;
 
 use crate::cases::asked_all;
-use libc::STDIN_FILENO;
+use std::io;
+use std::io::Read;
 
-fn main() {
+// Reads until the array is full or the input ends, and gives how many bytes it put at the front of the array.
+fn read_full(rt: &impl Input, bytes: &mut [u8]) -> io::Result<usize>
+    ensures { ReadsAtMost result bytes.new }
+{
+    let mut input = rt.reader();
+    let mut done = 0;
+    while done < bytes.len() {
+        let n = input.read(&mut bytes[done..])?;
+        if n == 0 {
+            break;
+        }
+        done += n;
+    }
+    Ok(done)
+}
+
+fn main(rt: HostRuntime) -> io::Result<()> {
     let mut cases = [0u8; 32768];
-    let n = io::read_full(STDIN_FILENO, &mut cases);
-    asked_all(&cases[..n]);
+    let n = read_full(&rt, &mut cases)?;
+    asked_all(&rt, &cases[..n])
 }

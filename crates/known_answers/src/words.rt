@@ -1,6 +1,6 @@
 // Parts of a line.
 ghost use Rattle.std.specs.Prelude.{◌≡◌, ◌-◌, length};
-ghost use Rattle.io.specs.Counts.{IsPrefixLen};
+ghost use Rattle.test_text.specs.Counts.{IsPrefixLen};
 
 use test_text::put;
 

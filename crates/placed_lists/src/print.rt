@@ -9,31 +9,28 @@ use placing::choice::Choice;
 use placing::place::{choose_corners, find_side};
 use placing::units::{HalfUnits, Place, Side};
 use placing::way::Way;
+use std::io;
 
 // A side is printed as a number, or as the word free.
-fn print_side(side: Side) {
+fn print_side(rt: &impl Print, side: Side) -> io::Result<()> {
     match side {
-        Side::Number(h) => {
-            io::print_decimal(1, h.0 as u64);
-        }
-        Side::Free => {
-            io::write_all(1, b"free");
-        }
+        Side::Number(h) => print!(rt; "{}", h.0),
+        Side::Free => print!(rt; "free"),
     }
 }
 
-fn print_corner(corner: u8) {
-    io::write_all(1, b"\t");
-    io::print_decimal(1, corner as u64);
+fn print_corner(rt: &impl Print, corner: u8) -> io::Result<()> {
+    print!(rt; "\t{corner}")
 }
 
 // The corners of the first `n` sites.
-fn print_corners(corners: [u8; 240], n: usize)
+fn print_corners(rt: &impl Print, corners: [u8; 240], n: usize) -> io::Result<()>
     requires { n ≤ 240 }
 {
     for i in 0..n {
-        print_corner(corners[i]);
+        print_corner(rt, corners[i])?;
     }
+    Ok(())
 }
 
 // Of how many sites the corners are printed: at most nine.
@@ -61,35 +58,41 @@ fn chosen(sites: [Place; 240], n: usize, way: Way, side: Side) -> Choice
 }
 
 // Prints a side and the first corners of the choice at it.
-fn print_line(side: Side, choice: Choice, n: usize) {
-    print_side(side);
+fn print_line(rt: &impl Print, side: Side, choice: Choice, n: usize) -> io::Result<()> {
+    print_side(rt, side)?;
     let corners = choice.corners;
     if choice.exists {
-        print_corners(corners, shown(n));
+        print_corners(rt, corners, shown(n))?;
     } else {
-        io::write_all(1, b"\tno good choice");
+        print!(rt; "\tno good choice")?;
     }
-    io::write_all(1, b"\n");
+    println!(rt)
 }
 
 // Places the first `n` of these sites by a way at the side found and prints their line.
-pub fn print_placed(sites: [Place; 240], n: usize, way: Way) {
+pub fn print_placed(rt: &impl Print, sites: [Place; 240], n: usize, way: Way) -> io::Result<()> {
     if ready(sites, n) {
         let side = found(sites, n, way);
-        print_line(side, chosen(sites, n, way, side), n);
+        print_line(rt, side, chosen(sites, n, way, side), n)
     } else {
-        io::write_all(1, b"not to be placed\n");
+        println!(rt; "not to be placed")
     }
 }
 
 // The same at a given side.
-pub fn print_chosen(sites: [Place; 240], n: usize, way: Way, h: u32)
+pub fn print_chosen(
+    rt: &impl Print,
+    sites: [Place; 240],
+    n: usize,
+    way: Way,
+    h: u32,
+) -> io::Result<()>
     requires { h ≤ 20000 }
 {
     if ready(sites, n) {
         let side = Side::Number(HalfUnits(h));
-        print_line(side, chosen(sites, n, way, side), n);
+        print_line(rt, side, chosen(sites, n, way, side), n)
     } else {
-        io::write_all(1, b"not to be placed\n");
+        println!(rt; "not to be placed")
     }
 }

@@ -2,7 +2,9 @@
 #![tactic(auto)]
 
 ghost use Rattle.std.specs.Prelude.{◌≤◌, length};
-ghost use Rattle.io.specs.Counts.{IsPrefixLen};
+ghost use Rattle.test_text.specs.Counts.{IsPrefixLen};
+
+use std::io::{Cursor, Write};
 
 // As many bytes, and no more than the text has.
 pub fn within(n: usize, text: &[u8]) -> usize
@@ -37,7 +39,8 @@ pub fn put_bytes(out: &mut [u8], at: usize, bytes: &[u8]) -> usize
 pub fn put_decimal(out: &mut [u8], at: usize, number: u64) -> usize
     ensures { result ≤ length out.old }
 {
-    let mut digits = [0u8; 20];
-    let n = io::decimal(number, &mut digits);
-    put_bytes(out, at, &digits[..n])
+    let mut digits = Cursor::new([0u8; 20]);
+    let _ = write!(digits, "{number}");
+    let n = within(digits.position() as usize, digits.get_ref());
+    put_bytes(out, at, &digits.get_ref()[..n])
 }

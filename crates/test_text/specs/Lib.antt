@@ -1,0 +1,2 @@
+-- What the contracts of counts cite.
+pub mod Counts

@@ -2,50 +2,23 @@
 use desk::tell;
 use std::io::Write;
 
+const USAGE: [&[u8]; 12] = [
+    b"usage: place [above] [SIDE] < LIST > SHEET\n",
+    b"Places a square label for each site of a car park level. Without SIDE the labels\n",
+    b"get the greatest side; with SIDE, a number of half units from 1 to 20000 or the\n",
+    b"word free, they get that one, where a good choice of corners exists. With the\n",
+    b"word above every label lies above its spot, at corner 1 or 2.\n",
+    b"LIST has one site a line: name, x, y, with one tab between them, and a line feed\n",
+    b"at the end of each line. A name is 1 to 8 of A to Z, 0 to 9 and hyphen; x and y\n",
+    b"are whole units from 0 to 10000. At most 240 sites; no name and no place twice.\n",
+    b"SHEET has the word side and the side in half units, or free, and then the list\n",
+    b"with a corner for each site: 1 right and up, 2 left and up, 3 left and down, 4\n",
+    b"right and down. What is outside the rules gives the word refused and a number,\n",
+    b"and standard error says why. Nothing was read or written.\n",
+];
+
 pub(crate) fn tell_usage<W: Write>(err: &mut W) {
-    tell(err, b"usage: place [above] [SIDE] < LIST > SHEET\n");
-    tell(
-        err,
-        b"Places a square label for each site of a car park level. Without SIDE the labels\n",
-    );
-    tell(
-        err,
-        b"get the greatest side; with SIDE, a number of half units from 1 to 20000 or the\n",
-    );
-    tell(
-        err,
-        b"word free, they get that one, where a good choice of corners exists. With the\n",
-    );
-    tell(
-        err,
-        b"word above every label lies above its spot, at corner 1 or 2.\n",
-    );
-    tell(
-        err,
-        b"LIST has one site a line: name, x, y, with one tab between them, and a line feed\n",
-    );
-    tell(
-        err,
-        b"at the end of each line. A name is 1 to 8 of A to Z, 0 to 9 and hyphen; x and y\n",
-    );
-    tell(
-        err,
-        b"are whole units from 0 to 10000. At most 240 sites; no name and no place twice.\n",
-    );
-    tell(
-        err,
-        b"SHEET has the word side and the side in half units, or free, and then the list\n",
-    );
-    tell(
-        err,
-        b"with a corner for each site: 1 right and up, 2 left and up, 3 left and down, 4\n",
-    );
-    tell(
-        err,
-        b"right and down. What is outside the rules gives the word refused and a number,\n",
-    );
-    tell(
-        err,
-        b"and standard error says why. Nothing was read or written.\n",
-    );
+    for line in &USAGE {
+        tell(err, line);
+    }
 }

@@ -17,6 +17,6 @@ returns g c =
     let read = c.read_input-reading in
     record {
       input_read = record { reads = read.ensures.reads; finished = read.ensures.finished; size = search rules };
-      sound = unfailed read.result.last c.in_default.not-Failed;
+      sound = search (rules, unfailed);
       is_output_for = is_output_for _ _ _ _ c.put_output.ensures.length c.put_output.ensures.buffer;
     }

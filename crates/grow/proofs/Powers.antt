@@ -1,13 +1,7 @@
 -- What the proofs of `digit_count` and `decimal` want of powers of a base. Assumes nothing.
 use Rattle.std.proofs.Common.{◌≡◌, ℕ, ◌+◌, ◌-◌, ◌*◌, ◌/◌, ◌^◌, ◌≤◌, ◌<◌, sym, ap, subst, ◌∙◌, add-one, arith, pow-suc}
-use Rattle.std.proofs.Math.Nat.{le_trans, le_of_suc-le-suc, mul-le-mul_right, mul-div-le, one-mul, pow-zero, one-le-pow, pow-le-pow_right, div-div-eq-div-mul, le-div_iff_mul-le, div-lt_iff_lt-mul, lt_of_not-le}
+use Rattle.std.proofs.Math.Nat.{le_of_suc-le-suc, one-le-pow, pow-le-pow_right, div-div-eq-div-mul, le-div_iff_mul-le, div-lt_iff_lt-mul, lt_of_not-le}
 use Rattle.grow.specs.Digits.{IsDigitCount}
-
-pub two-mul-div-le : (n b : ℕ) → 1 < b → 2 * (n / b) ≤ n
-two-mul-div-le n b h = le_trans (mul-le-mul_right (n / b) h) (mul-div-le n b)
-
-pub div-pow-one : (n b : ℕ) → n / b ≡ n / b ^ 1
-div-pow-one n b = ap (λ (d : ℕ). n / d) (sym (pow-suc b 0 ∙ ap (λ (p : ℕ). p * b) (pow-zero b) ∙ one-mul b))
 
 pub div-pow-div : (n b k : ℕ) → n / b ^ k / b ≡ n / b ^ (k + 1)
 div-pow-div n b k = div-div-eq-div-mul n (b ^ k) b ∙ ap (λ (d : ℕ). n / d) (sym (pow-suc b k) ∙ ap (λ (j : ℕ). b ^ j) (sym (add-one k)))

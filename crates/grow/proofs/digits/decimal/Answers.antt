@@ -14,5 +14,5 @@ write_digits-requires c = omega (arith, count_fits (goal.at.write_digits-require
 pub returns-clause-in_bounds : goal.returns-clause-in_bounds
 returns-clause-in_bounds c =
     let within : c.digit_count-k.result ≤ length c.write_digits.new.out =
-        omega (arith, count_fits (goal.at.returns-clause-in_bounds c).After-digit_count-k) in
+    omega (arith, count_fits (goal.at.returns-clause-in_bounds c).After-digit_count-k) in
     (within, sym (length-take-le _ _ within))

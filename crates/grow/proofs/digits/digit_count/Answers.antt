@@ -1,6 +1,6 @@
 -- A turn takes one digit more. Assumes nothing.
 use Rattle.std.proofs.Common.{ℕ, ◌/◌, ap, ◌∙◌, arith}
-use Rattle.grow.proofs.Powers.{two-mul-div-le, div-pow-div, pow-le_of_div_pos, lt-pow_of_div-zero}
+use Rattle.grow.proofs.Powers.{div-pow-div, pow-le_of_div_pos, lt-pow_of_div-zero}
 use Rattle.grow.proofs.digits.digit_count.Goals as goal
 
 pub loop-rest-preserved : goal.loop-rest-preserved

@@ -32,6 +32,6 @@ loop-i-preserved c =
       simp length-set l.invariant.0,
       omega arith,
       digits_step 10 l.i a.k l.rest c.digit_to_ascii.result l.out c.loop-i-test.true l.invariant.1 (omega arith) c.digit_to_ascii.ensures
-      ∙ l.invariant.2,
+          ∙ l.invariant.2,
       drop-set-lt a.k l.out (l.i - 1) _ (omega arith) ∙ l.invariant.3,
     )

@@ -1,5 +1,5 @@
 -- A failed read cut the list short, or what `put_output` leaves in the buffer is the output for the whole input. Assumes nothing.
-use Rattle.std.proofs.Common.{◌≡◌, rules, refl, arith}
+use Rattle.std.proofs.Common.{◌≡◌, rules, refl}
 use Rattle.place.specs.declared.answer.Step.{Step}
 use Rattle.place.specs.declared.answer.Step.TheVariants.{Got, Ended, Failed}
 use Rattle.place.specs.Input.{Sound}

@@ -3,7 +3,9 @@
 
 ghost use Rattle.desk.specs.Words.{Counted};
 
-use libc::STDERR_FILENO;
+use std::env::FillError;
+use std::io::Write;
+use std::rt::Env;
 
 // A word, from the front. One that does not fit is longer than every word that a program knows, and counts as none; but its first bytes
 // stand there.
@@ -14,21 +16,29 @@ pub struct Word {
 }
 
 // How many words stand behind the program's name, which is the first argument.
-pub fn word_count() -> usize {
-    let count = os::arg_count();
-    if count < 1 { 0 } else { count - 1 }
+pub fn word_count(rt: &impl Env) -> usize {
+    let mut bytes = [0u8; 8];
+    for i in 1..usize::MAX {
+        if let Err(FillError::NotPresent) = rt.arg(i, &mut bytes) {
+            return i - 1;
+        }
+    }
+    usize::MAX - 1
 }
 
 // The word with this number, from 1. One that is missing has no bytes.
-pub fn word_at(i: usize) -> Word
+pub fn word_at(rt: &impl Env, i: usize) -> Word
     ensures { Counted result }
 {
     let mut bytes = [0u8; 8];
-    let len = os::arg(i, &mut bytes);
+    let len = match rt.arg(i, &mut bytes) {
+        Ok(n) => n,
+        Err(_) => 0,
+    };
     Word { bytes, len }
 }
 
 // Says some words on standard error. Where they cannot be written there is nowhere left to say so.
-pub fn tell(words: &[u8]) {
-    io::write_all(STDERR_FILENO, words);
+pub fn tell<W: Write>(err: &mut W, words: &[u8]) {
+    let _ = err.write_all(words);
 }

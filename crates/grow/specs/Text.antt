@@ -1,7 +1,7 @@
 -- What the program writes, and then a line feed: the number, the word never, or the refusal.
 -- Assumes nothing.
 use Rattle.std.specs.Prelude.{◌≡◌, List, [], ◌∷◌, ◌++◌, ℕ, take}
-use Rattle.io.specs.Counts.{IsPrefixLen}
+use Rattle.desk.specs.Words.{IsPrefixLen}
 use Rattle.placing.specs.declared.units.Growth.{Growth}
 use Rattle.placing.specs.declared.units.Growth.TheVariants.{UpTo, Never}
 use Rattle.plan.specs.rules.Refusal.{number_of}

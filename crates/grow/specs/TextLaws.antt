@@ -3,7 +3,7 @@
 use Rattle.std.specs.Prelude.{◌≡◌, refl, List, [], ◌∷◌, ◌++◌, ℕ, zero, suc, ◌+◌, ◌-◌, ◌*◌, ◌/◌, ◌%◌, ◌^◌, ◌≤◌, ◌<◌, take}
 use Rattle.std.proofs.Common.{sym, ◌∙◌, subst, pow-suc, arith, lt-ltb}
 use Rattle.std.proofs.Math.Nat.{pow-le-pow_right}
-use Rattle.io.specs.Digits.{hex_digit_ascii, last_digits, IsDigitCount}
+use Rattle.grow.specs.Digits.{hex_digit_ascii, last_digits, IsDigitCount}
 use Rattle.placing.specs.declared.units.Growth.TheVariants.{Never}
 use Rattle.placing.specs.deciding.Growth.{up_to}
 use Rattle.plan.specs.declared.refusal.Refusal.{Refusal}

@@ -7,6 +7,7 @@ use desk::{Word, word_at};
 use growth::{AskedGrowth, how_far};
 use placing::units::{Limits, Place, Units};
 use plan::number::{Coordinate, coordinate_from};
+use std::rt::Env;
 
 // The words of a label.
 #[derive(Clone, Copy)]
@@ -17,14 +18,14 @@ pub(crate) struct LabelWords {
 }
 
 // The words of a label, of which the first has this number.
-pub(crate) fn label_at(first: usize) -> LabelWords
+pub(crate) fn label_at(rt: &impl Env, first: usize) -> LabelWords
     requires { first ≤ 4 }
     ensures { Words result }
 {
     LabelWords {
-        x: word_at(first),
-        y: word_at(first + 1),
-        corner: word_at(first + 2),
+        x: word_at(rt, first),
+        y: word_at(rt, first + 1),
+        corner: word_at(rt, first + 2),
     }
 }
 

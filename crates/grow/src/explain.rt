@@ -5,23 +5,24 @@ ghost use Rattle.grow.specs.Asked.{Words};
 
 use crate::asked::{LabelWords, number_given};
 use desk::{Word, tell};
-use libc::STDERR_FILENO;
 use placing::units::Limits;
+use std::io::Write;
 
-fn tell_word(number: usize, rule: &[u8]) {
-    tell(b"grow: word ");
-    io::print_decimal(STDERR_FILENO, number as u64);
-    tell(rule);
+fn tell_word<W: Write>(err: &mut W, number: usize, rule: &[u8]) {
+    tell(err, b"grow: word ");
+    let _ = write!(err, "{number}");
+    tell(err, rule);
 }
 
 // Tells of a word if it is no coordinate, and says whether it did.
-fn tell_coordinate(number: usize, word: Word) -> bool
+fn tell_coordinate<W: Write>(err: &mut W, number: usize, word: Word) -> bool
     requires { Counted word }
 {
     if number_given(word) <= Limits::COORDINATE {
         return false;
     }
     tell_word(
+        err,
         number,
         b": a coordinate outside the rule: it is a whole number from 0 to 10000, with no leading zero\n",
     );
@@ -30,13 +31,13 @@ fn tell_coordinate(number: usize, word: Word) -> bool
 
 // Tells of the first word of a label that is outside the rules, if there is one, and says whether it did. So many words stand before
 // the label's.
-fn tell_label(before: usize, label: LabelWords) -> bool
+fn tell_label<W: Write>(err: &mut W, before: usize, label: LabelWords) -> bool
     requires { (before ≤ 3) × Words label }
 {
-    if tell_coordinate(before + 1, label.x) {
+    if tell_coordinate(err, before + 1, label.x) {
         return true;
     }
-    if tell_coordinate(before + 2, label.y) {
+    if tell_coordinate(err, before + 2, label.y) {
         return true;
     }
     let corner = number_given(label.corner);
@@ -45,14 +46,14 @@ fn tell_label(before: usize, label: LabelWords) -> bool
             return false;
         }
     }
-    tell_word(before + 3, b": a corner not 1 to 4\n");
+    tell_word(err, before + 3, b": a corner not 1 to 4\n");
     true
 }
 
-pub(crate) fn tell_refused(own: LabelWords, other: LabelWords)
+pub(crate) fn tell_refused<W: Write>(err: &mut W, own: LabelWords, other: LabelWords)
     requires { Words own × Words other }
 {
-    if !tell_label(0, own) {
-        tell_label(3, other);
+    if !tell_label(err, 0, own) {
+        tell_label(err, 3, other);
     }
 }

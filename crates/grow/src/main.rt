@@ -3,6 +3,7 @@
 #![tactic(auto)]
 
 mod asked;
+mod digits;
 mod explain;
 mod text;
 mod usage;
@@ -13,12 +14,18 @@ use crate::usage::tell_usage;
 use crate::write::write_growth;
 use desk::word_count;
 
-fn main() {
-    if word_count() != 6 {
-        tell_usage();
+fn main(rt: HostRuntime) {
+    if word_count(&rt) != 6 {
+        tell_usage(&mut rt.stderr());
         return;
     }
-    let own = label_at(1);
-    let other = label_at(4);
-    write_growth(growth_asked(own, other), own, other);
+    let own = label_at(&rt, 1);
+    let other = label_at(&rt, 4);
+    write_growth(
+        &mut rt.stdout(),
+        &mut rt.stderr(),
+        growth_asked(own, other),
+        own,
+        other,
+    );
 }

@@ -3,6 +3,7 @@ ghost use Rattle.std.specs.Prelude.{◌<◌};
 ghost use Rattle.plan.specs.rules.Text.{decimal};
 ghost use Rattle.grow.specs.Text.{growth_text, refusal_text, asked_text, Holds};
 
+use crate::digits::decimal;
 use growth::AskedGrowth;
 use placing::units::Growth;
 use plan::refusal::number_of;
@@ -18,7 +19,7 @@ fn number_text(number: u32) -> Text
     ensures { Holds result (decimal number) }
 {
     let mut bytes = [0u8; 20];
-    let len = io::decimal(number as u64, &mut bytes);
+    let len = decimal(number as u64, &mut bytes);
     Text { bytes, len }
 }
 

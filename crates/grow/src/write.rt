@@ -6,28 +6,33 @@ use crate::explain::tell_refused;
 use crate::text::asked_text;
 use desk::tell;
 use growth::AskedGrowth;
-use libc::STDOUT_FILENO;
+use std::io;
+use std::io::Write;
 
 // Writes a text and a line feed.
-fn write_line(text: &[u8]) -> bool {
-    if io::write_all(STDOUT_FILENO, text) {
-        return io::write_all(STDOUT_FILENO, b"\n");
-    }
-    false
+fn write_line<W: Write>(out: &mut W, text: &[u8]) -> io::Result<()> {
+    out.write_all(text)?;
+    out.write_all(b"\n")
 }
 
 // Writes how far the labels of these words grow; or the refusal, and on standard error which word is refused and why.
-pub(crate) fn write_growth(asked: AskedGrowth, own: LabelWords, other: LabelWords)
+pub(crate) fn write_growth<W: Write, E: Write>(
+    out: &mut W,
+    err: &mut E,
+    asked: AskedGrowth,
+    own: LabelWords,
+    other: LabelWords,
+)
     requires { Words own × Words other }
 {
     let text = asked_text(asked);
     let bytes = text.bytes;
     let n = text.len;
-    if !write_line(&bytes[..n]) {
-        tell(b"grow: standard output cannot be written\n");
+    if write_line(out, &bytes[..n]).is_err() {
+        tell(err, b"grow: standard output cannot be written\n");
         return;
     }
     if let AskedGrowth::NoGrowth(_) = asked {
-        tell_refused(own, other);
+        tell_refused(err, own, other);
     }
 }

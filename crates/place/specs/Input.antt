@@ -1,16 +1,16 @@
--- Reading the input: what an answer of `read` means, and what reading leaves in the room. `read`'s own contract, of the library libc, says
--- that it answers -1 or how many bytes it brought, 0 at the end of the input.
+-- Reading the input: what an answer of `read` means, and what reading leaves in the room. `read`'s own contract, of the trait Read, says
+-- that it answers an error or how many bytes it brought, no more than there is room for; 0 is the end of the input.
 -- Assumes nothing.
-use Rattle.std.specs.Prelude.{List, ◌≡◌, ℕ, zero, suc, ◌+◌, ◌-◌, ◌<◌, ◌≤◌, ℤ, pos, negsuc, length, take}
+use Rattle.std.specs.Prelude.{List, ◌≡◌, ℕ, zero, suc, ◌+◌, ◌-◌, ◌<◌, ◌≤◌, Result, Ok, Err, length, take}
 use Rattle.place.specs.declared.answer.Reading.{Reading}
 use Rattle.place.specs.declared.answer.Step.{Step}
 use Rattle.place.specs.declared.answer.Step.TheVariants.{Got, Ended, Failed}
 
--- Below zero the read failed, at zero the input has ended, and any other answer is that many bytes.
-abbrev pub step_of : ℤ → Step
-step_of (negsuc k) = Failed
-step_of (pos zero) = Ended
-step_of (pos (suc k)) = Got (suc k)
+-- At an error the read failed, at no bytes the input has ended, and any other answer is that many bytes.
+abbrev pub step_of : {E : Type 0} → Result ℕ E → Step
+step_of (Err e) = Failed
+step_of (Ok zero) = Ended
+step_of (Ok (suc k)) = Got (suc k)
 
 -- What is left after a step: nothing where the input ended or a read failed.
 abbrev pub left_after : Step → ℕ → ℕ

@@ -9,9 +9,10 @@ ghost use Rattle.place.specs.Reply.{output_by, Replied, Writable};
 use crate::asked::{At, How};
 use crate::explain::tell_refused;
 use desk::tell;
-use libc::{STDIN_FILENO, STDOUT_FILENO};
 use plan::limits::TextLimits;
 use plan::output::{output, output_at};
+use std::io;
+use std::io::{Read, Write};
 
 // What one read did: it brought so many bytes, or found the end of the input, or failed.
 #[derive(Clone, Copy)]
@@ -36,13 +37,12 @@ enum Answer {
 }
 
 // What an answer of `read` means.
-fn step_of(got: isize) -> Step
+fn step_of(got: io::Result<usize>) -> Step
     ensures { result ≡ step_of got }
 {
-    if got < 0 {
+    let Ok(n) = got else {
         return Step::Failed;
-    }
-    let n = got as usize;
+    };
     if n == 0 {
         return Step::Ended;
     }
@@ -74,11 +74,11 @@ fn room_left(reading: Reading, room: &[u8]) -> usize
 }
 
 // One read into what is left of the room.
-fn read_once(text: &mut [u8], at: usize) -> Reading
+fn read_once<R: Read>(input: &mut R, text: &mut [u8], at: usize) -> Reading
     requires { at < length text.old }
     ensures { ReadBehind at text.old result text.new }
 {
-    let got = libc::read(STDIN_FILENO, &mut text[at..]);
+    let got = input.read(&mut text[at..]);
     let step = step_of(got);
     Reading {
         at: at + bytes_of(step),
@@ -87,7 +87,7 @@ fn read_once(text: &mut [u8], at: usize) -> Reading
 }
 
 // Reads until the input ends, a read fails or the room is full, however the bytes arrive.
-fn read_input(text: &mut [u8]) -> Reading
+fn read_input<R: Read>(input: &mut R, text: &mut [u8]) -> Reading
     ensures reads { InputReads text.old result text.new }
     ensures finished { Finished result text.new }
 {
@@ -96,7 +96,7 @@ fn read_input(text: &mut [u8]) -> Reading
         last: Step::Got(0),
     };
     while 0 < room_left(reading, text) {
-        reading = read_once(text, reading.at);
+        reading = read_once(input, text, reading.at);
     }
     reading
 }
@@ -116,11 +116,16 @@ fn put_output(text: &[u8], how: How, buffer: &mut [u8; TextLimits::SHEET]) -> us
 
 // Reads the list into the room and puts its output into the buffer. The bytes read decide every longer text. A list cut short by a
 // failed read has no output.
-fn reply(text: &mut [u8], how: How, buffer: &mut [u8; TextLimits::SHEET]) -> Answer
+fn reply<R: Read>(
+    input: &mut R,
+    text: &mut [u8],
+    how: How,
+    buffer: &mut [u8; TextLimits::SHEET],
+) -> Answer
     requires { length text.old ≡ longest_text }
     ensures { Replied how.way how.at text.old text.new result buffer.new }
 {
-    let reading = read_input(text);
+    let reading = read_input(input, text);
     let last = reading.last;
     if let Step::Failed = last {
         return Answer::Unread(reading);
@@ -130,28 +135,42 @@ fn reply(text: &mut [u8], how: How, buffer: &mut [u8; TextLimits::SHEET]) -> Ans
 }
 
 // Writes the answer: the output, and why the list is refused where it is; or what cannot be read or written.
-fn write_answer(answer: Answer, text: &[u8], how: How, buffer: [u8; TextLimits::SHEET])
+fn write_answer<W: Write, E: Write>(
+    out: &mut W,
+    err: &mut E,
+    answer: Answer,
+    text: &[u8],
+    how: How,
+    buffer: [u8; TextLimits::SHEET],
+)
     requires { Writable how.way how.at answer text.now buffer }
 {
     let Answer::Output(reading, n) = answer else {
-        tell(b"place: standard input cannot be read\n");
+        tell(err, b"place: standard input cannot be read\n");
         return;
     };
-    if !io::write_all(STDOUT_FILENO, &buffer[..n]) {
-        tell(b"place: standard output cannot be written\n");
+    if out.write_all(&buffer[..n]).is_err() {
+        tell(err, b"place: standard output cannot be written\n");
         return;
     }
     // A refusal starts with the word refused, a sheet with the word side.
     if buffer[0] == b'r' {
         let end = reading.at;
-        tell_refused(&text[..end], how);
+        tell_refused(err, &text[..end], how);
     }
 }
 
 // Answers the list on standard input, by the way and at the side asked for.
-pub(crate) fn answer_input(how: How) {
+pub(crate) fn answer_input(rt: HostRuntime, how: How) {
     let mut text = [0u8; TextLimits::TEXT];
     let mut buffer = [0u8; TextLimits::SHEET];
-    let answer = reply(&mut text, how, &mut buffer);
-    write_answer(answer, &text, how, buffer);
+    let answer = reply(&mut rt.stdin(), &mut text, how, &mut buffer);
+    write_answer(
+        &mut rt.stdout(),
+        &mut rt.stderr(),
+        answer,
+        &text,
+        how,
+        buffer,
+    );
 }

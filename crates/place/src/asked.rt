@@ -8,6 +8,7 @@ use placing::units::Side;
 use placing::way::Way;
 use plan::name::same_bytes;
 use plan::number::side_from;
+use std::rt::Env;
 
 // At which side the list is placed: the one that is found, or a given one.
 #[derive(Clone, Copy)]
@@ -90,6 +91,6 @@ fn words_asked(words: usize, one: Word, two: Word) -> Task
 }
 
 // What the arguments ask for. Those that are missing are words of no bytes.
-pub(crate) fn asked() -> Task {
-    words_asked(word_count(), word_at(1), word_at(2))
+pub(crate) fn asked(rt: &impl Env) -> Task {
+    words_asked(word_count(rt), word_at(rt, 1), word_at(rt, 2))
 }

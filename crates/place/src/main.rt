@@ -11,10 +11,10 @@ use crate::answer::answer_input;
 use crate::asked::{Task, asked};
 use crate::usage::tell_usage;
 
-fn main() {
-    let Task::Place(how) = asked() else {
-        tell_usage();
+fn main(rt: HostRuntime) {
+    let Task::Place(how) = asked(&rt) else {
+        tell_usage(&mut rt.stderr());
         return;
     };
-    answer_input(how);
+    answer_input(rt, how);
 }

@@ -1,17 +1,24 @@
 // What the program does, for whoever starts it with other words than above and a side.
 use desk::tell;
+use std::io::Write;
 
-pub(crate) fn tell_usage() {
-    tell(b"usage: place [above] [SIDE] < LIST > SHEET\n");
-    tell(b"Places a square label for each site of a car park level. Without SIDE the labels\n");
-    tell(b"get the greatest side; with SIDE, a number of half units from 1 to 20000 or the\n");
-    tell(b"word free, they get that one, where a good choice of corners exists. With the\n");
-    tell(b"word above every label lies above its spot, at corner 1 or 2.\n");
-    tell(b"LIST has one site a line: name, x, y, with one tab between them, and a line feed\n");
-    tell(b"at the end of each line. A name is 1 to 8 of A to Z, 0 to 9 and hyphen; x and y\n");
-    tell(b"are whole units from 0 to 10000. At most 240 sites; no name and no place twice.\n");
-    tell(b"SHEET has the word side and the side in half units, or free, and then the list\n");
-    tell(b"with a corner for each site: 1 right and up, 2 left and up, 3 left and down, 4\n");
-    tell(b"right and down. What is outside the rules gives the word refused and a number,\n");
-    tell(b"and standard error says why. Nothing was read or written.\n");
+const USAGE: [&[u8]; 12] = [
+    b"usage: place [above] [SIDE] < LIST > SHEET\n",
+    b"Places a square label for each site of a car park level. Without SIDE the labels\n",
+    b"get the greatest side; with SIDE, a number of half units from 1 to 20000 or the\n",
+    b"word free, they get that one, where a good choice of corners exists. With the\n",
+    b"word above every label lies above its spot, at corner 1 or 2.\n",
+    b"LIST has one site a line: name, x, y, with one tab between them, and a line feed\n",
+    b"at the end of each line. A name is 1 to 8 of A to Z, 0 to 9 and hyphen; x and y\n",
+    b"are whole units from 0 to 10000. At most 240 sites; no name and no place twice.\n",
+    b"SHEET has the word side and the side in half units, or free, and then the list\n",
+    b"with a corner for each site: 1 right and up, 2 left and up, 3 left and down, 4\n",
+    b"right and down. What is outside the rules gives the word refused and a number,\n",
+    b"and standard error says why. Nothing was read or written.\n",
+];
+
+pub(crate) fn tell_usage<W: Write>(err: &mut W) {
+    for line in &USAGE {
+        tell(err, line);
+    }
 }

@@ -1,6 +1,6 @@
 /* Square labels for the spots of a car park level: from the bytes of a list to the bytes of its sheet in one call, with four corners or
    above the spot only, at the greatest side or at a side of the caller's; and how far two labels grow.
-   Link target/staticlib/libsheet_call.a, which `rt staticlib sheet_call` writes. The contracts are proved in crates/sheet_call.
+   Link target/staticlib/libsheet_call.a, which callers/archive makes. The contracts are proved in crates/sheet_call and sheet_call_c.
 
    Platform: Linux on x86-64 (x86_64-unknown-linux-gnu, the System V calling convention), for programs in C, C++ or Rust.
    Threads: any number of threads may call at the same time. The library holds no bytes that can be written, so that a call depends on

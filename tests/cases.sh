@@ -31,6 +31,13 @@ succeeds() {
     [ -z "$wrong" ]
 }
 
+# programs NAME..: these are proved and built, each as crates/NAME/out/NAME. `rt run` also runs what it built: here it says its usage.
+programs() {
+    for name in "$@"; do
+        (cd "crates/$name" && rt run -- --help </dev/null) || return
+    done
+}
+
 # finish: the last line, and an exit status that says the same
 finish() {
     echo "$passed passed, $failed failed"

@@ -283,12 +283,12 @@ complains "there is no program $with"
 files 'no program' 1 level.list
 
 # Which program it is: that of $PLACE puts in side 1, that of the path 2, that of the checkout 3.
-mkdir -p "$desk/path" "$desk/checkout/examples" "$desk/checkout/target/bin"
+mkdir -p "$desk/path" "$desk/checkout/examples" "$desk/checkout/crates/place/out"
 for number in 1 2 3; do
     printf '#!/bin/sh\nsed "1s/6/%s/" "$SHEET"\n' "$number" | written "side-$number"
 done
 cp "$desk/bin/side-2" "$desk/path/place"
-cp "$desk/bin/side-3" "$desk/checkout/target/bin/place"
+cp "$desk/bin/side-3" "$desk/checkout/crates/place/out/place"
 cp "$script" "$desk/checkout/examples/file-a-sheet"
 ln -s "$desk/checkout/examples/file-a-sheet" "$desk/bin/linked"
 fresh "$made/example.list"

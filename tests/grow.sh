@@ -1,5 +1,5 @@
 # For tests/run: the program `grow` from outside, by whole bytes. GROW=PROGRAM tries another program in its place.
-grow=${GROW:-target/bin/grow}
+grow=${GROW:-crates/grow/out/grow}
 
 # grown WORDS..: the program with these words, its output in $made/out and $made/err
 grown() {

@@ -31,8 +31,7 @@ fn place_at(x: u32, y: u32) -> Place
 }
 
 // 0, with how far the two labels grow in `growth`; or the number of the refusal, 3, with `growth` as it came.
-#[unsafe(no_mangle)]
-pub extern "C" fn lemoncanyon_growth(
+pub fn lemoncanyon_growth(
     x1: u32,
     y1: u32,
     corner1: u32,

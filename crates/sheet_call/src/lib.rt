@@ -3,7 +3,7 @@
 // A third call tells how far two labels grow. `callers/lemoncanyon.h` declares the calls.
 #![tactic(auto)]
 
-mod growing;
+pub mod growing;
 
 ghost use Rattle.std.specs.Prelude.{◌≡◌};
 ghost use Rattle.plan.specs.calls.Plan.{Valid};
@@ -75,8 +75,7 @@ fn write_planned(planned: Planned, buffer: &mut [u8]) -> usize
 
 // The length of the list's sheet, which then stands at the front of the buffer; or the number of the refusal, below 18, with the
 // buffer as it came. A number that stands for no way is refused before the list is read.
-#[unsafe(no_mangle)]
-pub extern "C" fn lemoncanyon_sheet(list: &[u8], way: u32, buffer: &mut [u8]) -> usize
+pub fn lemoncanyon_sheet(list: &[u8], way: u32, buffer: &mut [u8]) -> usize
     ensures answer { result ≡ (called (way_of way) list.now buffer.old).number }
     ensures buffer { buffer.new ≡ (called (way_of way) list.now buffer.old).buffer }
     ensures told { Told (at_found (way_of way) list.now) buffer.old result buffer.new }
@@ -90,8 +89,7 @@ pub extern "C" fn lemoncanyon_sheet(list: &[u8], way: u32, buffer: &mut [u8]) ->
 
 // The same at a given side, in half units, or at free: the length of the sheet, or the number of the refusal, below 15. A number that
 // stands for no side is refused before the list is read, too.
-#[unsafe(no_mangle)]
-pub extern "C" fn lemoncanyon_sheet_at(list: &[u8], way: u32, side: u32, buffer: &mut [u8]) -> usize
+pub fn lemoncanyon_sheet_at(list: &[u8], way: u32, side: u32, buffer: &mut [u8]) -> usize
     ensures answer { result ≡ (called_at (way_of way) (side_of side) list.now buffer.old).number }
     ensures buffer { buffer.new ≡ (called_at (way_of way) (side_of side) list.now buffer.old).buffer }
     ensures told { Told (at_given (way_of way) (side_of side) list.now) buffer.old result buffer.new }

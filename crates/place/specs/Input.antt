@@ -1,16 +1,26 @@
--- Reading the input: what an answer of `read` means, and what reading leaves in the room. `read`'s own contract, of the trait Read, says
--- that it answers an error or how many bytes it brought, no more than there is room for; 0 is the end of the input.
+-- Reading the input: what an answer of a read means, and what reading leaves in the room. The contract of the trait Read says that a read
+-- gives an error or how many bytes it brought, 0 at the end of the input; its answer here is one number, -1 for an error.
 -- Assumes nothing.
-use Rattle.std.specs.Prelude.{List, ◌≡◌, ℕ, zero, suc, ◌+◌, ◌-◌, ◌<◌, ◌≤◌, Result, Ok, Err, length, take}
+use Rattle.std.specs.Prelude.{List, ◌≡◌, ℕ, zero, suc, ◌+◌, ◌-◌, ◌<◌, ◌≤◌, ℤ, pos, negsuc, Result, Ok, Err, length, take}
 use Rattle.place.specs.declared.answer.Reading.{Reading}
 use Rattle.place.specs.declared.answer.Step.{Step}
 use Rattle.place.specs.declared.answer.Step.TheVariants.{Got, Ended, Failed}
 
--- At an error the read failed, at no bytes the input has ended, and any other answer is that many bytes.
-abbrev pub step_of : {E : Type 0} → Result ℕ E → Step
-step_of (Err e) = Failed
-step_of (Ok zero) = Ended
-step_of (Ok (suc k)) = Got (suc k)
+-- What a call that is handed n bytes may answer: -1, or how many bytes it moved, at most n.
+abbrev pub Moved : ℕ → ℤ → Type 0
+Moved n (pos k) = k ≤ n
+Moved n (negsuc k) = k ≡ 0
+
+-- How many bytes a read brought, or -1 where it failed.
+abbrev pub read_answer : {E : Type 0} → Result ℕ E → ℤ
+read_answer (Ok n) = pos n
+read_answer (Err e) = negsuc 0
+
+-- Below zero the read failed, at zero the input has ended, and any other answer is that many bytes.
+abbrev pub step_of : ℤ → Step
+step_of (negsuc k) = Failed
+step_of (pos zero) = Ended
+step_of (pos (suc k)) = Got (suc k)
 
 -- What is left after a step: nothing where the input ended or a read failed.
 abbrev pub left_after : Step → ℕ → ℕ

@@ -1,43 +1,52 @@
 -- Laws of reading the input, for the proofs of the functions that read.
 -- Assumes nothing.
-use Rattle.std.specs.Prelude.{◌≡◌, refl, List, ℕ, zero, suc, ◌+◌, ◌-◌, ◌<◌, ◌≤◌, Result, Ok, Err, length}
-use Rattle.std.specs.Io.{ReadsAtMost}
-use Rattle.std.proofs.Common.{arith}
+use Rattle.std.specs.Prelude.{◌≡◌, refl, true, false, List, ℕ, zero, suc, ◌+◌, ◌-◌, ◌<◌, ◌≤◌, T, ℤ, nat_abs, pos, negsuc, length, take, drop}
+use Rattle.std.proofs.Common.{true≢false, arith, ltb-true, length-take, length-drop}
+use Rattle.std.specs.Int.Signed.{lt_z, non_neg}
 use Rattle.place.specs.declared.answer.Reading.{Reading}
 use Rattle.place.specs.declared.answer.Step.{Step}
 use Rattle.place.specs.declared.answer.Step.TheVariants.{Got, Ended, Failed}
-use Rattle.place.specs.Input.{GotSome, ReadBehind, bytes_of, left_after, room_left, step_of}
+use Rattle.place.specs.Input.{Moved, GotSome, ReadBehind, bytes_of, left_after, room_left, step_of}
 
--- An error is a failure.
-pub error-fails : {E : Type 0} (e : E) → Failed ≡ step_of (Err e)
-error-fails e = refl
+-- An answer below zero is a failure.
+pub below-zero-fails : (z : ℤ) → lt_z z (pos 0) ≡ true → Failed ≡ step_of z
+below-zero-fails (negsuc k) below = refl
+below-zero-fails (pos k) below = absurd (omega (arith, ltb-true k 0 below))
 
--- Any other answer counts bytes: none are the end of the input,
-pub no-bytes-end : (E : Type 0) (n : ℕ) → n ≡ 0 → Ended ≡ step_of {E = E} (Ok n)
-no-bytes-end E zero none = refl
-no-bytes-end E (suc k) none = absurd (omega arith)
+-- Any other answer counts bytes:
+pub not-below-counts : (z : ℤ) → lt_z z (pos 0) ≡ false → T (non_neg z)
+not-below-counts (negsuc k) not-below = absurd (true≢false not-below)
+not-below-counts (pos k) not-below = tt
+
+-- none are the end of the input,
+pub no-bytes-end : (z : ℤ) → lt_z z (pos 0) ≡ false → nat_abs z ≡ 0 → Ended ≡ step_of z
+no-bytes-end (negsuc k) not-below none = absurd (true≢false not-below)
+no-bytes-end (pos zero) not-below none = refl
+no-bytes-end (pos (suc k)) not-below none = absurd (omega arith)
 
 -- and some are that many.
-pub bytes-come : (E : Type 0) (n : ℕ) → (n ≡ 0 → ⊥) → Got n ≡ step_of {E = E} (Ok n)
-bytes-come E zero some = absurd (some refl)
-bytes-come E (suc k) some = refl
+pub bytes-come : (z : ℤ) → lt_z z (pos 0) ≡ false → (nat_abs z ≡ 0 → ⊥) → Got (nat_abs z) ≡ step_of z
+bytes-come (negsuc k) not-below some = absurd (true≢false not-below)
+bytes-come (pos zero) not-below some = absurd (some refl)
+bytes-come (pos (suc k)) not-below some = refl
 
 -- A step that got something got a byte or more,
-pub got-some : {E : Type 0} (r : Result ℕ E) → GotSome (step_of r)
-got-some (Err e) = tt
-got-some (Ok zero) = tt
-got-some (Ok (suc k)) = omega arith
+pub got-some : (z : ℤ) → GotSome (step_of z)
+got-some (negsuc k) = tt
+got-some (pos zero) = tt
+got-some (pos (suc k)) = omega arith
 
 -- and no more bytes come than there is room for.
-bytes_fit : {E : Type 0} (r : Result ℕ E) (room : List ℕ) → ReadsAtMost r room → bytes_of (step_of r) ≤ length room
-bytes_fit (Err e) room bound = omega arith
-bytes_fit (Ok zero) room bound = omega arith
-bytes_fit (Ok (suc k)) room bound = bound.0
+bytes_fit : (z : ℤ) (room : ℕ) → Moved room z → bytes_of (step_of z) ≤ room
+bytes_fit (negsuc k) room moved = omega arith
+bytes_fit (pos zero) room moved = omega arith
+bytes_fit (pos (suc k)) room moved = moved
 
 -- So one read into what is left of a text stays within it.
-pub is_read_within : {E : Type 0} (text part : List ℕ) (at : ℕ) (r : Result ℕ E) → at < length text → length part ≡ length text - at
-    → ReadsAtMost r part → at + bytes_of (step_of r) ≤ length text
-is_read_within text part at r inside whole bound = omega (arith, bytes_fit r part bound)
+pub is_read_within : (text : List ℕ) (at : ℕ) (z : ℤ) → at < length text → Moved (length (take (length text - at) (drop at text))) z
+    → at + bytes_of (step_of z) ≤ length text
+is_read_within text at z inside moved =
+    omega (arith, bytes_fit z _ moved, length-take (length text - at) (drop at text), length-drop at text)
 
 -- Where something is left after a step, all of the room is.
 left-whole : (s : Step) (left : ℕ) → 0 < left_after s left → left_after s left ≡ left

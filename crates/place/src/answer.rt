@@ -1,7 +1,7 @@
 // Reading the list from standard input, and writing its answer. Nothing but `answer_input` is seen outside, so that no answer and no
 // reading can be made up elsewhere.
-ghost use Rattle.std.specs.Prelude.{◌≡◌, ◌≤◌, ◌<◌, length};
-ghost use Rattle.place.specs.Input.{Finished, ReadBehind, InputReads, bytes_of, room_left, step_of};
+ghost use Rattle.std.specs.Prelude.{◌≡◌, ◌≤◌, ◌<◌, ◌^◌, IfOk, length};
+ghost use Rattle.place.specs.Input.{Finished, ReadBehind, InputReads, bytes_of, read_answer, room_left, step_of};
 ghost use Rattle.plan.specs.rules.List.{longest_text};
 ghost use Rattle.plan.specs.rules.Calls.{filled_with};
 ghost use Rattle.place.specs.Reply.{output_by, Replied, Writable};
@@ -36,13 +36,25 @@ enum Answer {
     Unread(Reading),
 }
 
+// What a read answers: how many bytes it brought, or -1 where it failed. A slice has less than 2⁶³ bytes.
+fn read_answer(got: io::Result<usize>) -> isize
+    requires { IfOk got (λ n. n < 2 ^ 63) }
+    ensures { result ≡ read_answer got }
+{
+    match got {
+        Ok(n) => n as isize,
+        Err(_) => -1,
+    }
+}
+
 // What an answer of `read` means.
-fn step_of(got: io::Result<usize>) -> Step
+fn step_of(got: isize) -> Step
     ensures { result ≡ step_of got }
 {
-    let Ok(n) = got else {
+    if got < 0 {
         return Step::Failed;
-    };
+    }
+    let n = got as usize;
     if n == 0 {
         return Step::Ended;
     }
@@ -78,7 +90,7 @@ fn read_once<R: Read>(input: &mut R, text: &mut [u8], at: usize) -> Reading
     requires { at < length text.old }
     ensures { ReadBehind at text.old result text.new }
 {
-    let got = input.read(&mut text[at..]);
+    let got = read_answer(input.read(&mut text[at..]));
     let step = step_of(got);
     Reading {
         at: at + bytes_of(step),

@@ -9,7 +9,8 @@ use Rattle.plan.specs.rules.Sheet.{sheet_with}
 use Rattle.plan.specs.rules.Calls.{filled_with}
 use Rattle.plan.specs.Demands.{ListRefused, RefusedAt, Answered, is_refusal_line, list_sheet, AnsweredAt, refusal_at, is_sheet_at}
 use Rattle.plan.specs.theorems.Longer.{output-first, output-first-at}
-use Rattle.plan.specs.theorems.Output.{output-answered, output-answered-at, output_within}
+use Rattle.plan.specs.theorems.Output.{output_within}
+use Rattle.plan.proofs.Guaranteed.{output-answered, output-answered-at}
 use Rattle.place.specs.declared.asked.At.{At}
 use Rattle.place.specs.declared.asked.At.TheVariants.{Found, Given}
 use Rattle.place.specs.declared.answer.Reading.{Reading}

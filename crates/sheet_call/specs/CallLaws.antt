@@ -39,9 +39,8 @@ use Rattle.plan.specs.theorems.Tables.{number_small}
 use Rattle.plan.specs.theorems.Reading.{reads-are, read-listed}
 use Rattle.plan.specs.theorems.Plan.{sites-placed}
 use Rattle.plan.specs.theorems.Sheet.{answer-listed, sheet-shortest, sheet-shortest-at}
+use Rattle.plan.proofs.Guaranteed.{sheet-for, sheet-for-at}
 use Rattle.plan.specs.theorems.Output.{
-  sheet-for,
-  sheet-for-at,
   ToPlace,
   not_placed,
   to_be_placed,

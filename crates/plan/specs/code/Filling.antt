@@ -2,12 +2,11 @@
 -- Assumes nothing.
 use Rattle.std.proofs.Math.Path.{◌≡◌, refl, sym, ap, subst}
 use Rattle.std.proofs.Common.{◌∙◌, mul-le-mul, arith}
-use Rattle.std.specs.Prelude.{Bool, true, false, not, ℕ, ◌*◌, ◌≤◌, ◌<◌, eqb, drop}
+use Rattle.std.specs.Prelude.{Bool, true, false, not, ℕ, ◌*◌, ◌≤◌, ◌<◌, eqb}
 use Rattle.std.proofs.lemmas.Bool.{false≢true}
 use mathlib.Core.List.{List, [], ◌∷◌}
 use Rattle.std.proofs.Math.ListN.{length, take}
-use Rattle.std.proofs.Math.Seq.{take_at}
-use borrow.Author.Tests.{lt-ltb, le-ltb}
+use borrow.Author.Tests.{lt-ltb}
 use Rattle.placing.specs.declared.units.Side.{Side}
 use Rattle.placing.specs.declared.way.Way.{Way}
 use Rattle.placing.specs.rules.Answer.{is_side}
@@ -17,7 +16,7 @@ use Rattle.plan.specs.declared.plan.AskedSide.TheVariants.{SideIs, NoSide}
 use Rattle.plan.specs.declared.plan.Plan.{Plan}
 use Rattle.plan.specs.declared.plan.Planned.{Planned}
 use Rattle.plan.specs.declared.plan.Written.{Written}
-use Rattle.plan.specs.declared.plan.Written.TheVariants.{Bytes, NotWritten}
+use Rattle.plan.specs.declared.plan.Written.TheVariants.{NotWritten}
 use Rattle.plan.specs.declared.refusal.Outcome.{Outcome}
 use Rattle.plan.specs.declared.refusal.Outcome.TheVariants.{Done, Refused}
 use Rattle.plan.specs.declared.refusal.Refusal.{Refusal}
@@ -48,13 +47,13 @@ use Rattle.plan.specs.calls.Answers.{
   placed_at,
   list_placed_at,
 }
-use Rattle.plan.specs.Demands.{WriteTold, PlacedSheet, SheetWritten}
+use Rattle.plan.specs.Demands.{WriteTold, SheetWritten}
 use Rattle.plan.specs.theorems.Reading.{reads-are, read-listed}
 use Rattle.plan.specs.theorems.Sheet.{answer-listed, sheet-longest, some-to-place}
 use Rattle.plan.specs.theorems.Plan.{sites-unplaced, sites-placed, holding-unplaced, valid-holding, valid-for}
 use Rattle.plan.specs.theorems.Calls.{write-told}
 use Rattle.plan.specs.theorems.Choosing.{chosen-listed, found-done, placed_by}
-use Rattle.plan.specs.theorems.Output.{sheet-placed, ToPlace, not_placed, to_be_placed, text-to-place}
+use Rattle.plan.specs.theorems.Output.{ToPlace, not_placed, to_be_placed, text-to-place}
 use Rattle.plan.specs.code.Put.{Put}
 use Rattle.plan.specs.code.PutLaws.{put_same, put_front, put-taken}
 use Rattle.plan.specs.code.CallLaws.{refusal-of}
@@ -62,7 +61,7 @@ use Rattle.plan.specs.code.CallLaws.{refusal-of}
 -- ---- writing
 
 -- A placed plan has some sites.
-placed-some : {plan : Plan} → Valid plan → plan.placed ≡ true → 1 ≤ length (sites_in plan)
+pub placed-some : {plan : Plan} → Valid plan → plan.placed ≡ true → 1 ≤ length (sites_in plan)
 unfolding unplaced_plan
 placed-some (is_unplaced sites listed) is = absurd (false≢true is)
 placed-some (is_placed sites way answer listed nonempty chosen) is = rw (sites-placed sites way answer) nonempty
@@ -84,7 +83,7 @@ WritePromised plan buffer r after =
 
 module _ (plan : Plan) (buffer : List ℕ) where
   -- All of it follows from what writing comes to, the buffer afterwards and what the sheet is.
-  promised : (comes : Result ℕ) {after : List ℕ} → length_written plan buffer ≡ comes
+  pub promised : (comes : Result ℕ) {after : List ℕ} → length_written plan buffer ≡ comes
       → after ≡ bytes_after comes (filled_with (sheet_for plan) buffer) buffer
       → SheetWritten plan.way (sites_in plan) plan.side (written_answer comes) after
       → WritePromised plan buffer (written_answer comes) after
@@ -103,20 +102,6 @@ module _ {plan : Plan} (valid : Valid plan) (is : plan.placed ≡ true) {buffer 
   pub write-short : length buffer < length (sheet_for plan) → WritePromised plan buffer (NotWritten ShortBuffer) buffer
   unfolding sites_in
   write-short short = promised plan buffer (refused ShortBuffer) (rw (is, lt-ltb (length buffer) (length (sheet_for plan)) short)) refl tt
-
-  -- The sheet was made in an array of its own, and its bytes are copied.
-  pub write-copied : {scratch made after : List ℕ} {n m : ℕ} → Put scratch 0 (sheet_for plan) n made
-      → length (sheet_for plan) ≤ length scratch → n ≤ length buffer → Put buffer 0 (take n made) m after
-      → WritePromised plan buffer (Bytes n) after
-  unfolding sites_in sheet_at chosen_at
-  write-copied {after = after} {n} put fits room copy =
-      let sheet = sheet_for plan in
-      let size : length sheet ≡ n = omega (arith, put.next_is) in
-      let front : after ≡ filled_with sheet buffer = put_front (put_same copy (put-taken put fits)) (omega arith) in
-      let taken : take n after ≡ sheet = ap (take n) front ∙ take_at sheet (drop (length sheet) buffer) n size in
-      promised plan buffer (accepted n) (rw (is, le-ltb (length buffer) (length sheet) (omega arith)) (ap accepted size)) front
-      (subst (PlacedSheet plan.way (sites_in plan) plan.side) (sym taken)
-      (sheet-placed (sites_in plan) (valid-holding valid).listed (placed-some valid is) (valid-for valid is)))
 
 -- ---- the output
 

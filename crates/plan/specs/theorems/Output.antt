@@ -8,8 +8,8 @@ use Rattle.placing.specs.declared.units.Place.{Place}
 use Rattle.placing.specs.declared.units.Side.{Side}
 use Rattle.placing.specs.declared.way.Way.{Way}
 use Rattle.placing.specs.rules.Answer.{Answer, is_side, IsAnswer, IsChosen}
-use Rattle.placing.specs.deciding.Answer.{answer_of, chosen_at}
-use Rattle.placing.specs.theorems.Answer.{answer-is, is-answer-of}
+use Rattle.placing.specs.deciding.Answer.{chosen_at}
+use Rattle.placing.specs.theorems.Answer.{is-answer-of}
 use Rattle.placing.specs.theorems.Given.{answer-chosen, chosen-answer, chosen_is, some-found}
 use Rattle.plan.specs.declared.plan.Planned.{Planned}
 use Rattle.plan.specs.declared.refusal.Refusal.{Refusal}
@@ -17,68 +17,22 @@ use Rattle.plan.specs.declared.refusal.Refusal.TheVariants.{BadNumber, NoGoodCho
 use Rattle.plan.specs.rules.Text.{decimal}
 use Rattle.plan.specs.rules.Refusal.{number_of, Result, accepted, refused, unless, after, after_tests}
 use Rattle.plan.specs.rules.List.{Site, places_of, Listed, list_text}
-use Rattle.plan.specs.rules.Sheet.{sheet_with, side_on, carried, refusal_line}
+use Rattle.plan.specs.rules.Sheet.{sheet_with, side_on, refusal_line}
 use Rattle.plan.specs.deciding.Output.{sheet_of, sheet_at, output_for, output_of, exists_at, output_at}
 use Rattle.plan.specs.rules.Calls.{no_sites, no_good, filled_with, to_place, to_place_at}
 use Rattle.plan.specs.deciding.Reading.{read_list}
 use Rattle.plan.specs.calls.Plan.{placed_plan}
 use Rattle.plan.specs.calls.Answers.{started, handed, list_placed, placed_at, list_placed_at}
-use Rattle.plan.specs.Demands.{
-  Accepts,
-  ListRefused,
-  at_line,
-  of_no_sites,
-  ListTold,
-  list_refused,
-  list_is_placed,
-  RefusedAt,
-  out_of_range,
-  refused_list,
-  none_good,
-  ListToldAt,
-  is_refused_at,
-  list_is_placed_at,
-  RightSheet,
-  PrintsFound,
-  PlacedSheet,
-  SheetFor,
-  Answered,
-  is_refusal_line,
-  list_sheet,
-  SheetForAt,
-  AnsweredAt,
-  refusal_at,
-  is_sheet_at,
-}
+use Rattle.plan.specs.Demands.{Accepts, ListRefused, at_line, of_no_sites, ListTold, list_refused, list_is_placed, RefusedAt, out_of_range, refused_list, none_good, ListToldAt, is_refused_at, list_is_placed_at, RightSheet, PrintsFound, SheetFor}
 use Rattle.plan.specs.theorems.Text.{decimal-short}
 use Rattle.plan.specs.theorems.Tables.{number_small}
 use Rattle.plan.specs.theorems.Reading.{reads-are, reads_so, read-listed, read-list, read-condition}
 use Rattle.plan.specs.theorems.Sheet.{chosen-lined, answer-listed, sheet-longest, some-to-place}
 use Rattle.plan.specs.calls.Lengths.{most_digits, longest_sheet, longest_refusal_line}
-use Rattle.plan.specs.theorems.ReadOff.{sheet-carries, sheet-again, sheet-again-at, sheet-apart, guaranteed, side-on-sheet, number_read, spots-on-sheet}
-
--- Demands 2 and 3 of the sheet of some sites, with what stands for the third above the spot.
-pub sheet-right : (way : Way) (sites : List Site) → Listed sites → 1 ≤ length sites → RightSheet way sites (sheet_of way sites)
-unfolding sheet_of
-sheet-right way sites listed some_sites =
-    let answer = answer_of way (places_of sites) in
-    let is_answer = answer-is way (places_of sites) listed.places_distinct in
-    let chosen = answer-listed way sites listed in
-    let each = chosen-lined sites listed chosen in
-    record {
-      answer = answer;
-      is_answer = is_answer;
-      prints = refl;
-      number = number_read answer each;
-      spots = spots-on-sheet answer each;
-      list = sheet-carries answer each;
-      again = sheet-again way sites listed some_sites;
-      free_apart = sheet-apart sites listed chosen;
-      guarantee = guaranteed way is_answer each;
-    }
+use Rattle.plan.specs.theorems.ReadOff.{side-on-sheet, spots-on-sheet}
 
 -- A sheet that prints the side found for its spots is that sheet.
-prints-found : {way : Way} {a : Answer} (sites : List Site) → Listed sites → IsChosen way (places_of sites) a
+pub prints-found : {way : Way} {a : Answer} (sites : List Site) → Listed sites → IsChosen way (places_of sites) a
     → PrintsFound way (sheet_with sites a) → sheet_with sites a ≡ sheet_of way sites
 unfolding sheet_of
 prints-found {way} {a} sites listed chosen prints =
@@ -88,27 +42,6 @@ prints-found {way} {a} sites listed chosen prints =
     let side : some a.side ≡ some prints.found.side = sym (side-on-sheet a each) ∙ prints.printed in
     let same : a.side ≡ prints.found.side = cc in
     ap (sheet_with sites) (chosen-answer is chosen same ∙ is-answer-of listed.places_distinct is)
-
--- The sheet of some sites at a side.
-pub sheet-placed : {way : Way} {a : Answer} (sites : List Site) → Listed sites → 1 ≤ length sites → IsChosen way (places_of sites) a
-    → PlacedSheet way sites a.side (sheet_with sites a)
-sheet-placed {way} {a} sites listed some_sites chosen =
-    let each = chosen-lined sites listed chosen in
-    record {
-      corners = a.corners;
-      is_chosen = chosen;
-      prints = refl;
-      prints_side = side-on-sheet a each;
-      spots = spots-on-sheet a each;
-      list = sheet-carries a each;
-      again = λ printed is.
-          let side : some a.side ≡ some printed = sym (side-on-sheet a each) ∙ is in
-          let same : a.side ≡ printed = cc in
-          subst (λ (s : Side). output_at way s (carried (sheet_with sites a)) ≡ sheet_with sites a) same (sheet-again-at sites listed some_sites chosen);
-      free_apart = sheet-apart sites listed chosen;
-      right_at_found = λ prints.
-          subst (RightSheet way sites) (sym (prints-found sites listed chosen prints)) (sheet-right way sites listed some_sites);
-    }
 
 -- The condition is met by every right sheet,
 pub right-found : {way : Way} {sites : List Site} {sheet : List ℕ} → Listed sites → RightSheet way sites sheet → PrintsFound way sheet
@@ -120,33 +53,9 @@ right-found {way} {sites} listed right =
       printed = ap side_on right.prints ∙ side-on-sheet right.answer each;
     }
 
--- A list that is accepted has that sheet, and the sheet carries the list.
-pub sheet-for : (way : Way) (text : List ℕ) (sites : List Site) → Accepts text sites → SheetFor way text (sheet_of way sites)
-sheet-for way text sites accepts =
-    let listed = read-listed text sites (reads-are accepts.read) in
-    record {
-      sites = sites;
-      accepts = accepts;
-      right = sheet-right way sites listed accepts.some_sites;
-      gives_back =
-          (sheet-right way sites listed accepts.some_sites).list ∙ read-list text sites (reads-are accepts.read);
-    }
-
 -- So the condition is met by every sheet that the program writes at the side found.
 pub sheet-found : {way : Way} {text sheet : List ℕ} → SheetFor way text sheet → PrintsFound way sheet
 sheet-found {text = text} for = right-found (read-listed text for.sites (reads-are for.accepts.read)) for.right
-
--- At a side too.
-pub sheet-for-at : {way : Way} {a : Answer} (text : List ℕ) (sites : List Site) → Accepts text sites → IsChosen way (places_of sites) a
-    → SheetForAt way a.side text (sheet_with sites a)
-sheet-for-at text sites accepts chosen =
-    let placed = sheet-placed sites (read-listed text sites (reads-are accepts.read)) accepts.some_sites chosen in
-    record {
-      sites = sites;
-      accepts = accepts;
-      placed = placed;
-      gives_back = placed.list ∙ read-list text sites (reads-are accepts.read);
-    }
 
 -- An empty text alone has no sites.
 pub none-refused : (text : List ℕ) → read_list text ≡ accepted [] → ListRefused text 8
@@ -166,15 +75,6 @@ text-to-place text = by-sites (read_list text) refl
     by-sites (accepted (site ∷ sites)) read =
         rw (some-to-place (site ∷ sites) (omega arith)) (to_be_placed (record { read = reads_so read; some_sites = omega arith }))
     by-sites (refused why) read = not_placed (at_line (read-condition text why read))
-
--- The output for every text is the line with its number, or its sheet.
-pub output-answered : (way : Way) (text : List ℕ) → Answered way text (output_of way text)
-unfolding output_of
-output-answered way text = by-sites (text-to-place text)
-  where
-    by-sites : {sites : Result (List Site)} → ToPlace text sites → Answered way text (output_for (sheet_of way) sites)
-    by-sites (not_placed reason) = is_refusal_line reason refl
-    by-sites (to_be_placed {sites} accepts) = list_sheet (sheet-for way text sites accepts)
 
 -- Reading and placing it tells the same.
 pub list-told : (way : Way) (text : List ℕ) {r : Planned} → r ≡ list_placed way text → ListTold way text r
@@ -216,15 +116,6 @@ text-to-place-at way side text = by_side (is_side side) refl
         (λ listed. after listed (λ sites. after_tests (no_sites (length sites) ∷ no_good (exists_at way side sites) ∷ []) sites)))
     by_side true given = by-sites given (read_list text) refl
     by_side false given = not_placed_at (out_of_range given)
-
--- The output for every text at a given side is the line with its number, or its sheet.
-pub output-answered-at : (way : Way) (side : Side) (text : List ℕ) → AnsweredAt way side text (output_at way side text)
-unfolding output_at sheet_at chosen_at
-output-answered-at way side text = by-sites (text-to-place-at way side text)
-  where
-    by-sites : {sites : Result (List Site)} → ToPlaceAt way side text sites → AnsweredAt way side text (output_for (sheet_at way side) sites)
-    by-sites (not_placed_at reason) = refusal_at reason refl
-    by-sites (is_placed_at {sites} accepts chosen) = is_sheet_at (sheet-for-at text sites accepts chosen)
 
 -- Reading and choosing tells the same.
 pub list-told-at : (way : Way) (side : Side) (text : List ℕ) {r : Planned} → r ≡ list_placed_at way side text → ListToldAt way side text r

@@ -1,26 +1,23 @@
 -- What is read off a sheet is what was written on it: demand 2's list, demand 3's number and spots, and what each way guarantees of them.
 -- Assumes nothing.
-use Rattle.std.specs.Prelude.{Bool, true, false, ◌≡◌, refl, List, [], ◌∷◌, ◌++◌, ℕ, ◌*◌, ◌≤◌, ◌<◌, length, get_or, drop}
+use Rattle.std.specs.Prelude.{Bool, true, false, ◌≡◌, refl, List, [], ◌∷◌, ◌++◌, ℕ, ◌≤◌, length, get_or, drop}
 use Rattle.std.proofs.Common.{sym, ap, ◌∙◌, subst, append_assoc, arith}
 use Rattle.std.proofs.Math.Option.{Option, some, none, none-ne-some}
 use Rattle.placing.specs.declared.units.Place.{Place}
 use Rattle.placing.specs.declared.units.Side.{Side}
 use Rattle.placing.specs.declared.units.Side.TheVariants.{Number, Free}
 use Rattle.placing.specs.declared.way.Way.{Way}
-use Rattle.placing.specs.declared.way.Way.TheVariants.{Usual, Above}
 use Rattle.placing.specs.rules.Units.{along, X, Y}
-use Rattle.placing.specs.rules.Choice.{Corners, UpperCorners, MeetingPair, Good}
+use Rattle.placing.specs.rules.Choice.{MeetingPair, Good}
 use Rattle.placing.specs.rules.Answer.{Answer, judged_at, side_number, numbered, IsAnswer, is_free, is_number, IsChosen}
 use Rattle.placing.specs.deciding.Answer.{is_some}
 use Rattle.placing.specs.theorems.Choice.{free_apart}
 use Rattle.placing.specs.theorems.Given.{chosen-found, is-chosen-at}
-use Rattle.placing.specs.theorems.FactorTwo.{answer-twice}
-use Rattle.placing.specs.theorems.ExactSide.{answer-exact}
 use Rattle.plan.specs.rules.Text.{tab, fields_of, Without, number_in, digits_after, decimal, same_bytes}
 use Rattle.plan.specs.rules.List.{Site, places_of, wanted_in, Listed, ByRules, list_line, list_text}
 use Rattle.plan.specs.rules.Sheet.{side_word, free_word, side_text, numbered_side, side_in, side_line, site_line, sheet_with, side_on_fields, side_on, number_printed, number_on, spots_on_lines, spots_on, carried_lines, carried, joined, but_last}
 use Rattle.plan.specs.deciding.Output.{sheet_of, sheet_at, output_of, output_at}
-use Rattle.plan.specs.Demands.{FreeApart, Guarantee}
+use Rattle.plan.specs.Demands.{FreeApart}
 use Rattle.plan.specs.theorems.Text.{parted-one, parted-more, same-bytes-same, same-bytes-refl, number-decimal, decimal-number, decimal-without, name-without}
 use Rattle.plan.specs.theorems.Sites.{listed-in-range}
 use Rattle.plan.specs.theorems.Reading.{list_read}
@@ -175,25 +172,8 @@ numbered-answer {way} {ps} {number = number} (is_number {h} {cs} none_free least
     subst (λ (n : ℕ). IsAnswer way ps (numbered n cs)) same (is_number none_free least most first above)
 
 -- What holds of the places for every such answer holds of the number and the spots on its sheet.
-of-sheet : {way : Way} {a : Answer} {sites : List Site} {number : ℕ} (Q : ℕ → List Place → Type 0)
+pub of-sheet : {way : Way} {a : Answer} {sites : List Site} {number : ℕ} (Q : ℕ → List Place → Type 0)
     → ((h : ℕ) (cs : List ℕ) → IsAnswer way (places_of sites) (numbered h cs) → Q h (places_of sites)) → IsAnswer way (places_of sites) a
     → Lined sites a.corners → number_on (sheet_with sites a) ≡ some number → Q number (spots_on (sheet_with sites a))
 of-sheet {a = a} {number = number} Q holds is_answer each is =
     subst (Q number) (sym (spots-on-sheet a each)) (holds number a.corners (numbered-answer is_answer (sym (number_read a each) ∙ is)))
-
--- A sheet with the answer has what its way guarantees: at sides greater than twice its number every rival has two labels that meet; above
--- the spot, at sides greater than the number itself, every rival with corners 1 and 2.
-pub guaranteed : (way : Way) {a : Answer} {sites : List Site} → IsAnswer way (places_of sites) a → Lined sites a.corners
-    → Guarantee way (sheet_with sites a)
-guaranteed Usual is_answer each =
-    record {
-      rivals_meet = λ number p q is.
-          of-sheet (λ h ps. 1 ≤ q → 2 * h * q < p → (corners : List ℕ) → Corners (length ps) corners → MeetingPair p q ps corners)
-          (λ h cs answer. answer-twice answer p q) is_answer each is;
-    }
-guaranteed Above is_answer each =
-    record {
-      rivals_meet = λ number p q is some-q.
-          of-sheet (λ h ps. h * q < p → (corners : List ℕ) → UpperCorners (length ps) corners → MeetingPair p q ps corners)
-          (λ h cs answer. answer-exact answer p q) is_answer each is;
-    }

@@ -6,7 +6,8 @@ use Rattle.plan.specs.rules.Calls.{to_place}
 use Rattle.plan.specs.calls.Plan.{placed_with, placed_plan}
 use Rattle.plan.specs.calls.Answers.{started}
 use Rattle.plan.specs.Demands.{Answered}
-use Rattle.plan.specs.theorems.Output.{output-answered, output-longest}
+use Rattle.plan.specs.theorems.Output.{output-longest}
+use Rattle.plan.proofs.Guaranteed.{output-answered}
 use Rattle.plan.specs.code.Filling.{handed-put, output-put, placed-output}
 use borrow.Author.Rules.{rules}
 use Rattle.plan.proofs.output.output.Goals as goal

@@ -6,7 +6,8 @@ use Rattle.plan.specs.rules.Calls.{to_place_at}
 use Rattle.plan.specs.calls.Plan.{placed_with}
 use Rattle.plan.specs.calls.Answers.{started, placed_at}
 use Rattle.plan.specs.Demands.{AnsweredAt}
-use Rattle.plan.specs.theorems.Output.{output-answered-at, output-longest-at}
+use Rattle.plan.specs.theorems.Output.{output-longest-at}
+use Rattle.plan.proofs.Guaranteed.{output-answered-at}
 use Rattle.plan.specs.code.Filling.{handed-put, output-put, placed-output-at}
 use borrow.Author.Rules.{rules}
 use Rattle.plan.proofs.output.output_at.Goals as goal

@@ -5,7 +5,8 @@ use Rattle.std.proofs.Common.{◌≡◌, true, ◌≤◌, arith, length}
 use Rattle.plan.specs.calls.Lengths.{longest_sheet}
 use Rattle.plan.specs.calls.Answers.{sheet_for}
 use Rattle.plan.specs.code.PutLaws.{put-length}
-use Rattle.plan.specs.code.Filling.{placed-longest, write-unplaced, write-short, write-copied}
+use Rattle.plan.specs.code.Filling.{placed-longest, write-unplaced, write-short}
+use Rattle.plan.proofs.Guaranteed.{write-copied}
 use Rattle.plan.proofs.sheet.write.Goals as goal
 
 -- A plan that is not placed is refused.

@@ -1,0 +1,2 @@
+-- What several proofs share, and other crates cite: what holds of the sheet and the output for a list.
+pub mod Guaranteed

@@ -2,8 +2,8 @@
 -- point. For a sheet placed above the spot, so does whoever takes a side greater than the number itself and corners 1 and 2. A sheet's own
 -- labels do not, where it prints free.
 -- Assumes nothing.
-use Rattle.std.specs.Prelude.{◌≡◌, List, ◌≢◌, ℕ, ◌+◌, ◌*◌, ◌≤◌, ◌<◌, length, take, replicate}
-use Rattle.std.proofs.Common.{sym, ◌∙◌, ap, subst, arith}
+use Rattle.std.specs.Prelude.{◌≡◌, List, ◌≢◌, ℕ, ◌+◌, ◌*◌, ◌≤◌, ◌<◌, length, replicate}
+use Rattle.std.proofs.Common.{sym, subst, arith}
 use Rattle.std.proofs.Math.Option.{some}
 use Rattle.std.proofs.lemmas.List.{length-replicate, get_or-replicate}
 use Rattle.placing.specs.declared.units.Place.{Place}
@@ -15,14 +15,12 @@ use Rattle.placing.specs.rules.Units.{site_at, Distinct}
 use Rattle.placing.specs.rules.Corner.{Corner}
 use Rattle.placing.specs.rules.Label.{Point, Covers, point_of}
 use Rattle.placing.specs.rules.Choice.{corner_at, Corners, Upper, UpperCorners, MeetingPair}
-use Rattle.placing.specs.rules.Answer.{Answer, judged_at, numbered, side_number, IsAnswer, IsChosen}
-use Rattle.placing.specs.theorems.Answer.{answer-unique}
+use Rattle.placing.specs.rules.Answer.{Answer, judged_at, IsAnswer, IsChosen}
 use Rattle.placing.specs.theorems.Choice.{meeting-of}
 use Rattle.placing.specs.theorems.CommonPoint.{meet-exactly, covered-meets}
-use Rattle.plan.specs.rules.List.{Site, Listed, places_of}
+use Rattle.plan.specs.rules.List.{Site, Listed}
 use Rattle.plan.specs.rules.Sheet.{side_on, number_on, spots_on}
-use Rattle.plan.specs.declared.plan.Written.TheVariants.{Bytes}
-use Rattle.plan.specs.Demands.{NoRival, NoRivalAbove, Guarantee, FreeApart, RightSheet, PrintsFound, PlacedSheet, SheetWritten}
+use Rattle.plan.specs.Demands.{Guarantee, FreeApart, RightSheet, PlacedSheet}
 
 -- The labels of some two of these places, at these corners and the side p/q, cover a common point.
 pub record CommonPoint (p q : ℕ) (ps : List Place) (cs : List ℕ) : Type 0 where
@@ -36,7 +34,7 @@ pub record CommonPoint (p q : ℕ) (ps : List Place) (cs : List ℕ) : Type 0 wh
   pub by_second : Covers p q (site_at ps second) (corner_at cs second) point
 
 -- Two labels that meet do,
-meeting-common : {p q : ℕ} {ps : List Place} {cs : List ℕ} → 1 ≤ p → 1 ≤ q → Distinct ps → MeetingPair p q ps cs → CommonPoint p q ps cs
+pub meeting-common : {p q : ℕ} {ps : List Place} {cs : List ℕ} → 1 ≤ p → 1 ≤ q → Distinct ps → MeetingPair p q ps cs → CommonPoint p q ps cs
 meeting-common {p} {q} some-p some-q places pair =
     let differ = places.distinct pair.first pair.second pair.first_listed pair.second_listed pair.different in
     let common = (meet-exactly p q some-p some-q differ).0 pair.meet in
@@ -63,19 +61,6 @@ common-meeting {p} {q} some-p some-q places common =
       different = common.different;
       meet = (meet-exactly p q some-p some-q differ).1 (common.point, common.by_first, common.by_second);
     }
-
--- So do two labels of every rival, for every number that the sheet prints and every p/q greater than twice it. Demand 3 is a hypothesis here:
--- with a premise more it would not be enough.
-pub rivals-common : {sheet : List ℕ} → NoRival sheet → Distinct (spots_on sheet) → (number p q : ℕ) → number_on sheet ≡ some number → 1 ≤ q
-    → 2 * number * q < p → (corners : List ℕ) → Corners (length (spots_on sheet)) corners → CommonPoint p q (spots_on sheet) corners
-rivals-common no_rival spots number p q printed some-q above corners each =
-    meeting-common (omega arith) some-q spots (no_rival.rivals_meet number p q printed some-q above corners each)
-
--- The same above the spot, for every p/q greater than the number and corners 1 and 2.
-pub rivals-common-above : {sheet : List ℕ} → NoRivalAbove sheet → Distinct (spots_on sheet) → (number p q : ℕ) → number_on sheet ≡ some number
-    → 1 ≤ q → number * q < p → (corners : List ℕ) → UpperCorners (length (spots_on sheet)) corners → CommonPoint p q (spots_on sheet) corners
-rivals-common-above no_rival spots number p q printed some-q above corners each =
-    meeting-common (omega arith) some-q spots (no_rival.rivals_meet number p q printed some-q above corners each)
 
 -- Corner 1 everywhere is a choice of upper corners.
 ones-upper : (n : ℕ) → UpperCorners n (replicate n 1)
@@ -108,26 +93,6 @@ abbrev pub Rival : Way → (h p q n : ℕ) → List ℕ → Type 0
 Rival Usual h p q n corners = (2 * h * q < p) × Corners n corners
 Rival Above h p q n corners = (h * q < p) × UpperCorners n corners
 
--- By each way two labels of every rival cover a common point.
-guaranteed-common : (way : Way) (sheet : List ℕ) → Guarantee way sheet → Distinct (spots_on sheet) → (number p q : ℕ)
-    → number_on sheet ≡ some number → 1 ≤ q → (corners : List ℕ) → Rival way number p q (length (spots_on sheet)) corners
-    → CommonPoint p q (spots_on sheet) corners
-guaranteed-common Usual sheet guarantee spots number p q printed some-q corners rival =
-    rivals-common guarantee spots number p q printed some-q rival.0 corners rival.1
-guaranteed-common Above sheet guarantee spots number p q printed some-q corners rival =
-    rivals-common-above guarantee spots number p q printed some-q rival.0 corners rival.1
-
--- The same from the answer's own number: over a right sheet for some sites, every rival of the number of their answer draws two labels that
--- cover a common point.
-pub right-common : {way : Way} {sites : List Site} {sheet : List ℕ} → Listed sites → RightSheet way sites sheet → {h : ℕ} {cs : List ℕ}
-    → IsAnswer way (places_of sites) (numbered h cs) → (p q : ℕ) → 1 ≤ q → (corners : List ℕ)
-    → Rival way h p q (length (places_of sites)) corners → CommonPoint p q (places_of sites) corners
-right-common {way} {sheet = sheet} listed right {h} is p q some-q corners =
-    let printed : number_on sheet ≡ some h = right.number ∙ ap (λ (a : Answer). side_number a.side) (answer-unique right.is_answer is) in
-    let spots : Distinct (spots_on sheet) = rw right.spots listed.places_distinct in
-    subst (λ (ps : List Place). Rival way h p q (length ps) corners → CommonPoint p q ps corners) right.spots
-    (guaranteed-common way sheet right.guarantee spots h p q printed some-q corners)
-
 -- Where a sheet prints free, no two of its own labels cover a common point, at whatever side: so over a right sheet,
 free-common : {sheet corners : List ℕ} → FreeApart sheet corners → Distinct (spots_on sheet) → side_on sheet ≡ some Free → (p q : ℕ)
     → 1 ≤ p → 1 ≤ q → CommonPoint p q (spots_on sheet) corners → ⊥
@@ -150,12 +115,6 @@ pub free-covers-no-spot : {sheet corners : List ℕ} → FreeApart sheet corners
 free-covers-no-spot apart printed p q i j listed other differ covers =
     apart.none_meet printed p q (meeting-of i j listed other differ (covered-meets _ covers _))
 
--- Rivals of a sheet at whatever side, where it prints the side found for its spots.
-pub placed-common : {way : Way} {sites : List Site} {side : Side} {sheet : List ℕ} → Listed sites → PlacedSheet way sites side sheet
-    → PrintsFound way sheet → {h : ℕ} {cs : List ℕ} → IsAnswer way (places_of sites) (numbered h cs) → (p q : ℕ) → 1 ≤ q
-    → (corners : List ℕ) → Rival way h p q (length (places_of sites)) corners → CommonPoint p q (places_of sites) corners
-placed-common listed placed prints = right-common listed (placed.right_at_found prints)
-
 -- The condition is that the side on the first line is the one found for the spots below it, and nothing more: with a field more in
 -- `PrintsFound` this would not be enough.
 pub placed-right : {way : Way} {sites : List Site} {side : Side} {sheet : List ℕ} → PlacedSheet way sites side sheet → {found : Answer}
@@ -173,10 +132,3 @@ pub covers-no-spot : {way : Way} {sites : List Site} {side : Side} {sheet : List
     → Covers (judged_at side) 1 (site_at (spots_on sheet) i) (corner_at placed.corners i) (point_of (site_at (spots_on sheet) j)) → ⊥
 covers-no-spot placed i j listed other differ covers =
     (placed-on-spots placed).first.good.apart (meeting-of i j listed other differ (covered-meets _ covers _))
-
--- What an accepted writing leaves in the buffer is such a sheet.
-pub written-common : {way : Way} {sites : List Site} {side : Side} (n : ℕ) (buffer : List ℕ) → Listed sites
-    → SheetWritten way sites side (Bytes n) buffer → PrintsFound way (take n buffer) → {h : ℕ} {cs : List ℕ}
-    → IsAnswer way (places_of sites) (numbered h cs) → (p q : ℕ) → 1 ≤ q → (corners : List ℕ)
-    → Rival way h p q (length (places_of sites)) corners → CommonPoint p q (places_of sites) corners
-written-common n buffer listed written prints = placed-common listed written prints

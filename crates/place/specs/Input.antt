@@ -1,5 +1,6 @@
 -- Reading the input: what an answer of a read means, and what reading leaves in the room. The contract of the trait Read says that a read
--- gives an error or how many bytes it brought, 0 at the end of the input; its answer here is one number, -1 for an error.
+-- gives an error or how many bytes it brought, no more than there is room for. Its answer here is one number, -1 for an error; none are
+-- the end of the input.
 -- Assumes nothing.
 use Rattle.std.specs.Prelude.{List, ◌≡◌, ℕ, zero, suc, ◌+◌, ◌-◌, ◌<◌, ◌≤◌, ℤ, pos, negsuc, Result, Ok, Err, length, take}
 use Rattle.place.specs.declared.answer.Reading.{Reading}

@@ -1,4 +1,5 @@
--- A sheet that was made in an array of its own and copied to the front of a buffer; and the output, which is made in the buffer.
+-- A sheet and the buffer that it is written to, or not (that it is copied there: proofs/Guaranteed); and the output, which is made in the
+-- buffer.
 -- Assumes nothing.
 use Rattle.std.proofs.Math.Path.{◌≡◌, refl, sym, ap, subst}
 use Rattle.std.proofs.Common.{◌∙◌, mul-le-mul, arith}

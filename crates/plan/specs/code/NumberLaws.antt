@@ -70,30 +70,30 @@ module _ (most : ℕ) where
       by-test false more = refl
 
   -- Reading on after a number.
-  abbrev readAfter : NumberRead → List ℕ → NumberRead
-  readAfter (Is n) rest = number_read most (digits_after n rest)
-  readAfter NoNumber rest = NoNumber
+  abbrev read_after : NumberRead → List ℕ → NumberRead
+  read_after (Is n) rest = number_read most (digits_after n rest)
+  read_after NoNumber rest = NoNumber
 
   -- So a text is read by its first byte, and then on after what that gives.
   byte-read : (n b : ℕ) (rest : List ℕ)
-      → number_read most (digits_after n (b ∷ rest)) ≡ readAfter (number_read most (digits_after n (b ∷ []))) rest
+      → number_read most (digits_after n (b ∷ rest)) ≡ read_after (number_read most (digits_after n (b ∷ []))) rest
   unfolding digits_after
   byte-read n b rest = by-digit (leb zero_digit b && leb b 57)
     where
       in_range : (m : ℕ) (t : Bool) → leb m most ≡ t
-          → number_read most (digits_after m rest) ≡ readAfter (elim t [ true ↦ Is m | false ↦ NoNumber ]) rest
+          → number_read most (digits_after m rest) ≡ read_after (elim t [ true ↦ Is m | false ↦ NoNumber ]) rest
       in_range m true fits = refl
       in_range m false far = beyond-stays m rest (leb-false m most far)
 
       by-digit : (t : Bool) → number_read most (elim t [ true ↦ digits_after (n * 10 + (b - zero_digit)) rest | false ↦ none ])
-          ≡ readAfter (number_read most (elim t [ true ↦ some (n * 10 + (b - zero_digit)) | false ↦ none ])) rest
+          ≡ read_after (number_read most (elim t [ true ↦ some (n * 10 + (b - zero_digit)) | false ↦ none ])) rest
       by-digit true = in_range (n * 10 + (b - zero_digit)) (leb (n * 10 + (b - zero_digit)) most) refl
       by-digit false = refl
 
   -- The same of byte i of a text.
   pub byte_at : (n : ℕ) (text : List ℕ) (i : ℕ) {read : NumberRead} → i < length text
       → number_read most (digits_after n (get_or text i 0 ∷ [])) ≡ read
-      → number_read most (digits_after n (drop i text)) ≡ readAfter read (drop (i + 1) text)
+      → number_read most (digits_after n (drop i text)) ≡ read_after read (drop (i + 1) text)
   byte_at n text i within is = rw (add-one, drop-cons text i 0, ← is) (byte-read n (get_or text i 0) (drop (suc i) text))
 
 -- At the end of a text.

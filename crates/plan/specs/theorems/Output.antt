@@ -1,5 +1,5 @@
--- A sheet of sites by the rules is right, and the output for a text meets the three demands, with what stands for the third above the spot,
--- is at most 5,531 bytes long and lies within the array that it is put into.
+-- What is placed of a text, and the output for it: at most 5,531 bytes long, and within the array that it is put into. That its sheet is right
+-- and that it meets the three demands stands in proofs/Guaranteed.
 -- Assumes nothing.
 use Rattle.std.specs.Prelude.{◌≡◌, refl, Bool, true, false, not, List, [], ◌∷◌, ℕ, ◌≤◌, length, drop}
 use Rattle.std.proofs.Common.{sym, ap, ◌∙◌, subst, true≢false, arith, ne_eqb, length-append}

@@ -1,4 +1,5 @@
--- What is read off a sheet is what was written on it: demand 2's list, demand 3's number and spots, and what each way guarantees of them.
+-- What is read off a sheet is what was written on it: demand 2's list, demand 3's number and spots. What each way guarantees of them stands in
+-- proofs/Guaranteed.
 -- Assumes nothing.
 use Rattle.std.specs.Prelude.{Bool, true, false, ◌≡◌, refl, List, [], ◌∷◌, ◌++◌, ℕ, ◌≤◌, length, get_or, drop}
 use Rattle.std.proofs.Common.{sym, ap, ◌∙◌, subst, append_assoc, arith}

@@ -1,6 +1,5 @@
--- Demand 3 in the picture: whoever takes a side greater than twice the number that a sheet prints draws two labels that cover a common
--- point. For a sheet placed above the spot, so does whoever takes a side greater than the number itself and corners 1 and 2. A sheet's own
--- labels do not, where it prints free.
+-- Demand 3 in the picture: two labels that meet are two labels that cover a common point. That every rival draws such labels stands in
+-- proofs/Rivals; here, that a sheet's own labels do not, where it prints free.
 -- Assumes nothing.
 use Rattle.std.specs.Prelude.{◌≡◌, List, ◌≢◌, ℕ, ◌+◌, ◌*◌, ◌≤◌, ◌<◌, length, replicate}
 use Rattle.std.proofs.Common.{sym, subst, arith}

@@ -1,12 +1,25 @@
 -- Laws of reading the input, for the proofs of the functions that read.
 -- Assumes nothing.
-use Rattle.std.specs.Prelude.{◌≡◌, refl, true, false, List, ℕ, zero, suc, ◌+◌, ◌-◌, ◌<◌, ◌≤◌, T, ℤ, nat_abs, pos, negsuc, length, take, drop}
+use Rattle.std.specs.Prelude.{◌≡◌, refl, true, false, List, ℕ, zero, suc, ◌+◌, ◌-◌, ◌<◌, ◌≤◌, T, ℤ, nat_abs, pos, negsuc, Ok, Err, length, take, drop}
 use Rattle.std.proofs.Common.{true≢false, arith, ltb-true, length-take, length-drop}
 use Rattle.std.specs.Int.Signed.{lt_z, non_neg}
 use Rattle.place.specs.declared.answer.Reading.{Reading}
 use Rattle.place.specs.declared.answer.Step.{Step}
 use Rattle.place.specs.declared.answer.Step.TheVariants.{Got, Ended, Failed}
-use Rattle.place.specs.Input.{Moved, GotSome, ReadBehind, bytes_of, left_after, room_left, step_of}
+use Rattle.place.specs.Input.{Moved, GotSome, ReadBehind, bytes_of, left_after, read_answer, room_left, step_of}
+
+-- An error of a read is a failure, whatever it is, and nothing else is:
+pub error-fails : {E : Type 0} (e : E) → step_of (read_answer (Err e)) ≡ Failed
+error-fails e = refl
+
+-- what was brought is counted,
+pub brought-counts : (E : Type 0) (n : ℕ) → bytes_of (step_of (read_answer {E = E} (Ok n))) ≡ n
+brought-counts E zero = refl
+brought-counts E (suc n) = refl
+
+-- and none are the end of the input.
+pub none-ends : (E : Type 0) → step_of (read_answer {E = E} (Ok 0)) ≡ Ended
+none-ends E = refl
 
 -- An answer below zero is a failure.
 pub below-zero-fails : (z : ℤ) → lt_z z (pos 0) ≡ true → Failed ≡ step_of z

@@ -4,7 +4,6 @@ use Rattle.std.specs.Prelude.{◌≡◌, List, ℕ, ◌-◌, ◌<◌, length, ta
 use Rattle.std.proofs.Common.{sym, ap, ◌∙◌, length-drop}
 use Rattle.std.proofs.Math.Seq.{take-length}
 use Rattle.plan.specs.declared.list.RefusedLine.{RefusedLine}
-use Rattle.plan.specs.declared.list.Stop.TheVariants as stop
 use Rattle.plan.specs.declared.refusal.Refusal.{Refusal}
 use Rattle.plan.specs.rules.Refusal.{number_of}
 use Rattle.plan.specs.rules.List.{TextLine}
@@ -18,20 +17,20 @@ use Rattle.hints.specs.Hint.{hint_of}
 use Rattle.hints.specs.Explained.{Explained, by_line, by_none}
 
 -- What is told: the line, the refusal and the hint.
-abbrev told : ℕ → Refusal → Option Hint → Option Explanation
+abbrev pub told : ℕ → Refusal → Option Hint → Option Explanation
 told line why hint = Some (record { line = line; why = why; hint = hint })
 
 module _ {text : List ℕ} where
   -- Where reading stops nowhere, every line is accepted.
-  pub nowhere-explained : StopTold text stop.Nowhere → Explained text None
+  pub nowhere-explained : StopTold text None → Explained text None
   nowhere-explained (at_no_line reads) = by_none reads
 
   -- A line starts within the text,
-  pub line-inside : {line : RefusedLine} → StopTold text (stop.AtLine line) → line.at < length text
+  pub line-inside : {line : RefusedLine} → StopTold text (Some line) → line.at < length text
   line-inside (at_a_line stops) = stop-inside stops
 
   -- and the hint for the first line of what starts there is the hint for it.
-  pub line-explained : {line : RefusedLine} {hint : Option Hint} → StopTold text (stop.AtLine line)
+  pub line-explained : {line : RefusedLine} {hint : Option Hint} → StopTold text (Some line)
       → hint ≡ hint_of line.number (cut_line (take (length text - line.at) (drop line.at text)))
       → Explained text (told line.number line.why hint)
   line-explained {line} (at_a_line stops) is =

@@ -1,16 +1,19 @@
 -- The tests of a line as the functions make them: byte by byte, and one after another.
 -- Assumes nothing.
-use Rattle.std.specs.Prelude.{map, Option, Some, None, ◌≡◌, refl, Bool, true, false, ◌&&◌, ◌||◌, List, [], ◌∷◌, ◌++◌, ◌≢◌, ℕ, suc, ◌+◌, ◌≤◌, ◌<◌, eqb, ltb, length, get_or, take, drop}
+use Rattle.std.specs.Prelude.{map, Option, Some, None, ◌≡◌, refl, Bool, true, false, ◌&&◌, ◌||◌, List, [], ◌∷◌, ◌++◌, ◌≢◌, ℕ, zero, suc, ◌+◌, ◌-◌, ◌≤◌, ◌<◌, eqb, ltb, length, get_or, take, drop}
 use Rattle.std.proofs.Common.{sym, ap, ap₂, ◌∙◌, add-one, arith, length-append, drop_of_length-le, take-suc}
 use Rattle.std.proofs.Math.Bool.{and-false}
 use Rattle.std.proofs.Math.Seq.{drop-cons, take-length, take-append_seam}
-use borrow.Author.Tests.{ne_eqb, lt-ltb, le-ltb}
+use Rattle.std.proofs.lemmas.Bool.{eqb-true, eqb-false}
+use Rattle.std.proofs.Math.Bool.{and-true}
+use borrow.Author.Tests.{eq-eqb, ne_eqb, lt-ltb, le-ltb}
 use Rattle.plan.specs.rules.Text.{line_feed}
 use Rattle.plan.specs.rules.List.{TextLine, FirstLine, with_feed, without_feed}
 use Rattle.plan.specs.deciding.Reading.{with_byte, cut_line}
 use Rattle.plan.specs.theorems.Reading.{cut-first-line}
 use Rattle.std.specs.List.{find, list_any, starts_with as prefix_by, ends_with as suffix_by}
 use Rattle.std.specs.Option.{option_map}
+use lib.Pointwise.{pointwise}
 use Rattle.hints.specs.declared.Hint.{Hint}
 use Rattle.hints.specs.Hint.{within, has, ends_in, starts_with, HintTest, ◌gives◌, first_hint, hint_of, line_of}
 
@@ -90,11 +93,18 @@ eqb-turned a b = by-test (eqb a b) refl
     by-test false e = sym (ne_eqb b a (λ same. eqb-false a b e (sym same)))
 
 -- The last byte as the library says it.
+last-part : (last : ℕ) (bytes : List ℕ) (n : ℕ) → suc n ≡ length bytes → pointwise eqb (last ∷ []) (drop n bytes) ≡ ends_in last bytes
+unfolding ends_in
+last-part last [] n all = absurd (omega (arith, all))
+last-part last (b ∷ []) zero all = rw eqb-turned (and-true (eqb b last))
+last-part last (b ∷ []) (suc n) all = absurd (omega (arith, all))
+last-part last (b ∷ c ∷ bytes) zero all = absurd (omega (arith, all))
+last-part last (b ∷ c ∷ bytes) (suc n) all = last-part last (c ∷ bytes) n (omega (arith, all))
+
 pub ends-suffix : (last : ℕ) (bytes : List ℕ) → suffix_by eqb bytes (last ∷ []) ≡ ends_in last bytes
 unfolding ends_in
 ends-suffix last [] = refl
-ends-suffix last (b ∷ []) = and-true (eqb last b) ∙ eqb-turned last b
-ends-suffix last (b ∷ c ∷ bytes) = ends-suffix last (c ∷ bytes)
+ends-suffix last (b ∷ bytes) = last-part last (b ∷ bytes) (length (b ∷ bytes) - 1) (omega arith)
 
 -- The start as the library says it.
 pub starts-prefix : (start bytes : List ℕ) → prefix_by eqb bytes start ≡ starts_with start bytes

@@ -9,7 +9,7 @@ ghost use Rattle.hints.specs.Hint.{first_hint, line_of, hint_of};
 ghost use Rattle.hints.specs.TestLaws.{row_of};
 
 use plan::limits::TextLimits;
-use plan::list::{Stop, refused_line};
+use plan::list::refused_line;
 use plan::refusal::Refusal;
 use std::fmt;
 
@@ -159,9 +159,7 @@ fn hint_for(line: usize, text: &[u8]) -> Option<Hint>
 pub fn explain(text: &[u8]) -> Option<Explanation>
     ensures { Explained text.now result }
 {
-    let Stop::AtLine(stop) = refused_line(text) else {
-        return None;
-    };
+    let stop = refused_line(text)?;
     Some(Explanation {
         line: stop.number,
         why: stop.why,

@@ -35,6 +35,10 @@ abbrev pub unplaced_of : ℕ → List Name → List Place → Plan
 unplaced_of count names places =
     record { count = count; names = names; places = places; placed = false; way = Usual; side = Free; corners = replicate most_sites 0 }
 
+-- A plan with one site more. It is not placed.
+abbrev pub one_more : Plan → Name → Place → Plan
+one_more plan name place = unplaced_of (plan.count + 1) (set plan.names plan.count name) (set plan.places plan.count place)
+
 -- With every slot empty it is the plan of no sites.
 pub empty-started : {none : Name} → none ≡ name_of [] → unplaced_of 0 (replicate most_sites none) (replicate most_sites nowhere) ≡ unplaced_plan []
 unfolding unplaced_plan
@@ -94,8 +98,7 @@ held_more {A} f d sites site room =
 -- The plan with a name and a place more is that of the sites with one more.
 pub holding-more : {plan : Plan} {sites : List Site} → Holding plan sites → (name : Name) (place : Place) → name ≡ name_of (name_held name)
     → plan.count < most_sites
-    → unplaced_of (plan.count + 1) (set plan.names plan.count name) (set plan.places plan.count place)
-    ≡ unplaced_plan (sites ++ (site_of name place ∷ []))
+    → one_more plan name place ≡ unplaced_plan (sites ++ (site_of name place ∷ []))
 unfolding unplaced_plan
 holding-more {plan} {sites} holding name place named room = λ k. unplaced_of (counts k) (names k) (places k)
   where

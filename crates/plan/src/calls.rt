@@ -73,9 +73,9 @@ impl Plan {
         ensures value { side_carried result
             ≡ carried_at (number_by (finding_tests self.now.count (length table.old))) (side_number (answer_of way (places_of (sites_in self.now))).side) }
     {
-        let n = self.count;
-        ready(n, table.len())?;
-        Ok(find_side(self.places, n, way, table))
+        ready(self.count, table.len())?;
+        let sites = &self.places[..self.count];
+        Ok(find_side(sites, way, table))
     }
 
     // Chooses the first good choice by a way at a given side: tests 3, 8, 11, 12. The plan is then placed that way at that side.
@@ -89,16 +89,12 @@ impl Plan {
         if !is_side(side) {
             return Err(Refusal::BadNumber);
         }
-        let n = self.count;
-        ready(n, table.len())?;
-        let choice = choose_corners(self.places, n, way, side, table);
-        if !choice.exists {
-            return Err(Refusal::NoGoodChoice);
-        }
+        ready(self.count, table.len())?;
+        let sites = &self.places[..self.count];
+        let corners = choose_corners(sites, way, side, table).ok_or(Refusal::NoGoodChoice)?;
         self.placed = true;
         self.way = way;
         self.side = side;
-        let corners = choice.corners;
         self.corners = corners;
         Ok(())
     }

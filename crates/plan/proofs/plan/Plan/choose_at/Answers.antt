@@ -4,14 +4,14 @@ use mathlib.Core.Path.{◌≡◌, refl, sym, ap, ◌∙◌}
 use mathlib.Core.Bool.{true}
 use native.Mathlib.Omega.{arith}
 use lib.ListN.{length}
-use borrow.Author.Tests.{not-true, not-false}
 use Rattle.placing.specs.rules.Answer.{is_side}
 use Rattle.placing.specs.theorems.Given.{judged-range}
 use Rattle.plan.specs.declared.plan.Plan.{Plan}
+use Rattle.plan.specs.declared.refusal.Refusal.TheVariants.{NoGoodChoice}
 use Rattle.plan.specs.theorems.Plan.{valid-holding}
 use Rattle.plan.specs.code.Entering.{outcome-refused, outcome-done}
-use Rattle.plan.specs.code.PlanLaws.{holding-ready, holding-placed, holding-exists}
-use Rattle.plan.specs.code.CallLaws.{handed-back, outside-first, given-first, choose-refuses, choose-none, choose-accepts}
+use Rattle.plan.specs.code.PlanLaws.{holding-size, holding-cleared, holding-ready, holding-placed, holding-exists, holding-none}
+use Rattle.plan.specs.code.CallLaws.{refusal-of, handed-back, outside-first, given-first, choose-refuses, choose-none, choose-accepts}
 use Rattle.plan.specs.calls.Answers.{Planned}
 use Rattle.plan.proofs.plan.Plan.choose_at.Goals as goal
 
@@ -44,24 +44,28 @@ returns-in_err-ready c =
       told = told.1.1.1;
     }
 
-pub choose_corners-choice-requires : goal.choose_corners-choice-requires
-choose_corners-choice-requires c =
+pub shared_ref_as_front-sites : goal.shared_ref_as_front-sites
+shared_ref_as_front-sites c =
+    let holding = valid-holding c.requires in omega (arith, holding.count, holding.listed.few)
+
+pub choose_corners-requires : goal.choose_corners-requires
+choose_corners-requires c =
     let given : is_side c.args.side ≡ true =
     sym c.is_side.ensures ∙ c.if-not-is_side.false in (
       holding-ready (valid-holding c.requires) c.args.table.now (outcome-done _ (sym c.ready.ensures ∙ c.in_ok-ready.was)),
       (judged-range c.args.side given).1,
     )
 
-pub returns-then-not-choice : goal.returns-then-not-choice
-returns-then-not-choice c =
+pub returns-in_err-corners : goal.returns-in_err-corners
+returns-in_err-corners c =
     let given : is_side c.args.side ≡ true =
     sym c.is_side.ensures ∙ c.if-not-is_side.false in
     let holding = valid-holding c.requires in
-    let none_good = sym (holding-exists holding c.args.way c.args.side _ c.choose_corners-choice.ensures.first)
-    ∙ not-true c.choose_corners-choice.result.exists c.if-not-choice.true in
+    let none_good = holding-none holding c.args.way c.args.side c.choose_corners.ensures.first NoGoodChoice c.ok_or.ensures.value c.in_err-corners.was in
     let told = choose-none c.requires c.args.way c.args.side c.args.table.now
     (given-first c.args.side c.args.self.now.count (length c.args.table.now) given (outcome-done _ (sym c.ready.ensures ∙ c.in_ok-ready.was)))
-    c.choose_corners-choice.ensures.table none_good refl in
+    (holding-cleared holding c.args.table.now c.choose_corners.ensures.table) none_good.0
+    (handed-back c.args.self.now c.from_residual-in_err-corners.ensures.1 ∙ ap (refusal-of c.args.self.now) (sym none_good.1)) in
     record {
       answer = told.0;
       table = told.1.0;
@@ -75,13 +79,14 @@ returns c =
     sym c.is_side.ensures ∙ c.if-not-is_side.false in
     let holding = valid-holding c.requires in
     let ready = outcome-done _ (sym c.ready.ensures ∙ c.in_ok-ready.was) in
-    let there = sym (holding-exists holding c.args.way c.args.side _ c.choose_corners-choice.ensures.first)
-    ∙ not-false c.choose_corners-choice.result.exists c.if-not-choice.false in
+    let first = c.choose_corners.ensures.first in
     let told = choose-accepts c.requires c.args.way c.args.side c.args.table.now
     (given-first c.args.side c.args.self.now.count (length c.args.table.now) given ready)
-    c.choose_corners-choice.ensures.table there given (holding-ready holding c.args.table.now ready).some_sites
+    (holding-cleared holding c.args.table.now c.choose_corners.ensures.table)
+    (holding-exists holding c.args.way c.args.side first NoGoodChoice c.ok_or.ensures.value c.in_ok-corners.was) given
+    (let may = holding-ready holding c.args.table.now ready in omega (arith, may.some_sites, holding-size holding))
     (ap {B = Planned} (λ (p : Plan). record { outcome = Ok tt; plan = p })
-    (holding-placed holding c.args.way c.args.side c.choose_corners-choice.result c.choose_corners-choice.ensures.first refl)) in
+    (holding-placed holding c.args.way c.args.side first NoGoodChoice c.ok_or.ensures.value c.in_ok-corners.was)) in
     record {
       answer = told.0;
       table = told.1.0;

@@ -6,7 +6,7 @@ use Rattle.placing.specs.declared.units.Place.{Place}
 use Rattle.placing.specs.deciding.Answer.{answer_of}
 use Rattle.plan.specs.theorems.Plan.{valid-holding}
 use Rattle.plan.specs.code.Entering.{outcome-refused, outcome-done}
-use Rattle.plan.specs.code.PlanLaws.{holding-places, holding-ready}
+use Rattle.plan.specs.code.PlanLaws.{holding-places, holding-cleared, holding-ready}
 use Rattle.plan.specs.code.CallLaws.{handed-on, find-refuses, find-accepts}
 use Rattle.plan.proofs.plan.Plan.find.Goals as goal
 
@@ -25,15 +25,20 @@ returns-in_err-ready c =
       value = told.1.1.1;
     }
 
+pub shared_ref_as_front-sites : goal.shared_ref_as_front-sites
+shared_ref_as_front-sites c =
+    let holding = valid-holding c.requires in omega (arith, holding.count, holding.listed.few)
+
 pub find_side-requires : goal.find_side-requires
 find_side-requires c =
     holding-ready (valid-holding c.requires) c.args.table.now (outcome-done _ (sym c.ready.ensures ∙ c.in_ok-ready.was))
 
 pub returns : goal.returns
 returns c =
+    let holding = valid-holding c.requires in
     let told = find-accepts c.args.self.now c.args.way c.args.table.now (outcome-done _ (sym c.ready.ensures ∙ c.in_ok-ready.was))
-    (c.find_side.ensures.side ∙ ap (λ (ps : List Place). (answer_of c.args.way ps).side) (holding-places (valid-holding c.requires)))
-    c.find_side.ensures.table in
+    (c.find_side.ensures.side ∙ ap (λ (ps : List Place). (answer_of c.args.way ps).side) (holding-places holding))
+    (holding-cleared holding c.args.table.now c.find_side.ensures.table) in
     record {
       answer = told.0;
       table = told.1.0;

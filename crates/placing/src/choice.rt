@@ -67,7 +67,11 @@ impl Labels<'_> {
     }
 
     // The first good choice, or none. Past the last site its corners are what the walk left.
-    pub(crate) fn choose(&self, crowding: &Crowding, marks: &mut [u8]) -> Option<[u8; Limits::SITES]>
+    pub(crate) fn choose(
+        &self,
+        crowding: &Crowding,
+        marks: &mut [u8],
+    ) -> Option<[u8; Limits::SITES]>
         requires { MayChoose self.now crowding.now marks.old }
         ensures { choice_in (length self.now.sites.now) result
             ≡ first_good self.now.way self.now.side.0 self.now.sites.now }

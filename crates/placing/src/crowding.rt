@@ -68,10 +68,11 @@ fn lower_pair(
     requires { MayLower reaches.old top i s j t.now }
     ensures { PairLowered top.0 i s j t.now reaches.old reaches.new }
 {
-    if top.doubled() <= distance(s.x, t.x) {
+    let Place { x, y } = *t;
+    if top.doubled() <= distance(s.x, x) {
         return;
     }
-    let t = *t;
+    let t = Place { x, y };
     let away = distance_between(s, t);
     lower_site(reaches, i, s, t, away);
     lower_site(reaches, j, t, s, away);

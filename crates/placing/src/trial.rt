@@ -17,7 +17,7 @@ use crate::fresh::State;
 use crate::geometry::{Label, distance, growth};
 use crate::labels::Labels;
 use crate::sites::index_of;
-use crate::units::Limits;
+use crate::units::{Limits, Place};
 use crate::way::Way;
 
 // Which corners of a site are open: nothing, one, or more.
@@ -135,11 +135,12 @@ impl Labels<'_> {
             → Decides result (Clash self.now k c j e) }
     {
         let s = own.site;
-        if self.side.doubled() <= distance(s.x, self.sites[j].x) {
+        let Place { x, y } = self.sites[j];
+        if self.side.doubled() <= distance(s.x, x) {
             return false;
         }
         let other = Label {
-            site: self.sites[j],
+            site: Place { x, y },
             toward,
         };
         if self.side.exceeds(growth(own, other)) {
@@ -177,13 +178,15 @@ impl Labels<'_> {
         requires { MayCarryCorner self.now state.old k e from }
         ensures { CarriedOut (problem_of self.now) (Only e) state.old k result state.new }
     {
+        // A copy, so that the side and where the sites stand are read once and not for each site.
+        let labels = *self;
         let own = Label {
-            site: self.sites[k],
+            site: labels.sites[k],
             toward: directions_of(state.decided[k]),
         };
         let toward = directions_of(e);
-        for j in from..self.sites.len() {
-            if !self.carry_to(state, k, own, j, e, toward) {
+        for j in from..labels.sites.len() {
+            if !labels.carry_to(state, k, own, j, e, toward) {
                 return false;
             }
         }

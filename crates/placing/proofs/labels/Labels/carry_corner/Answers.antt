@@ -1,7 +1,6 @@
 -- `Labels::carry_corner` meets its contract. The loop's invariant: the decision of `k` was carried to corner `e` of the other sites below `j`,
 -- and the rest is as at entry.
 -- Assumes nothing.
-use native.Mathlib.Omega.{arith}
 use Rattle.placing.specs.rules.Units.{site_at}
 use Rattle.placing.specs.code.Carry.{carried-start, carried-more, carried-all, carried-stuck, may-carry-to}
 use Rattle.placing.proofs.labels.Labels.carry_corner.Goals as goal

@@ -1,5 +1,3 @@
-use Prim.Native.Nat.{◌≤◌}
-use lib.ListN.{length}
 use Rattle.placing.specs.search.State.{Only}
 use Rattle.placing.specs.code.Labels.{problem_of}
 use Rattle.placing.specs.code.Carry.{CarriedBelow}

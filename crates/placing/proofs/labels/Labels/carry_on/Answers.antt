@@ -2,7 +2,6 @@
 -- The measure is how many sites have no mark.
 -- Assumes nothing.
 use native.Mathlib.Nat.{lt_of_lt_of_le}
-use native.Mathlib.Omega.{arith}
 use Rattle.placing.specs.code.Marks.{mark-fewer}
 use Rattle.placing.specs.code.CarryOn.{carrying-starts, carrying-ends, carrying-on, carrying-stuck, none_below, may-carry-out}
 use Rattle.placing.proofs.labels.Labels.carry_on.Goals as goal

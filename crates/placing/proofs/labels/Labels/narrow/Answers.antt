@@ -1,10 +1,7 @@
 -- `Labels::narrow` meets its contract: the side tried is the next lower end where it has a good choice, else the next upper end.
 -- Assumes nothing.
 use mathlib.Core.Path.{sym, ◌∙◌}
-use Prim.Native.Nat.{◌≤◌}
-use native.Mathlib.Nat.{le_trans}
 use native.Mathlib.Omega.{arith}
-use Rattle.placing.specs.code.Sites.{held_at}
 use Rattle.placing.specs.code.Chosen.{chosen_good, chosen_none}
 use Rattle.placing.specs.code.Bisect.{narrowed-up, narrowed-down}
 use Rattle.placing.proofs.labels.Labels.narrow.Goals as goal

@@ -1,8 +1,9 @@
 -- The output for the bytes read is the output for the whole input, and the program's answer can be written.
 -- Assumes nothing.
-use Rattle.std.specs.Prelude.{◌≡◌, refl, List, [], ◌∷◌, ◌++◌, ◌⊎◌, ℕ, ◌+◌, ◌<◌, ◌≤◌, Option, None, Some, IfSome, Ok, Err, length, take, drop}
+use Rattle.std.specs.Prelude.{◌≡◌, refl, List, [], ◌∷◌, ◌++◌, ◌⊎◌, ℕ, ◌+◌, ◌<◌, ◌≤◌, Option, None, Some, IfSome, Ok, Err, length, get_or, take, drop}
 use Rattle.std.specs.Io.KnownBytes.{Consumes, IsAtEnd}
-use Rattle.std.proofs.Common.{sym, ap, ◌∙◌, subst, inl, inr, arith, length-take, take_all, take_at}
+use Rattle.std.proofs.Common.{sym, ap, ◌∙◌, subst, inl, inr, arith, length-take, take_all, take_at, append-nil}
+use Rattle.std.proofs.Math.Decide.{dec_lt}
 use Rattle.placing.specs.declared.units.Side.{Side}
 use Rattle.placing.specs.declared.way.Way.{Way}
 use Rattle.plan.specs.rules.List.{longest_text}
@@ -14,7 +15,7 @@ use Rattle.plan.specs.theorems.Output.{output_within}
 use Rattle.plan.proofs.Guaranteed.{output-answered, output-answered-at}
 use Rattle.place.specs.declared.answer.Answer.{Answer}
 use Rattle.place.specs.Input.{Reading, Step, Failed, room_left, bytes_of, InputReads, none_yet, once_more, Finished, Sound}
-use Rattle.place.specs.Reply.{output_by, AnsweredBy, OutputFor, Replied, IsRefused, Writable}
+use Rattle.place.specs.Reply.{output_by, AnsweredBy, OutputFor, Whole, Replied, IsRefused, Writable}
 
 -- What `output` leaves for the bytes read is the output for every input that starts with them.
 pub is_output_for : {n : ℕ} {after : List ℕ} (way : Way) (at : Option Side) (read buffer : List ℕ) → n ≡ length (output_by way at read)
@@ -38,21 +39,34 @@ is_output_for {n} {after} way at read buffer size is =
     whole input first =
         ap (take n) is ∙ take_at (output_by way at read) (drop (length (output_by way at read)) buffer) n (sym size) ∙ by_first at input first
 
--- Lists whose first parts differ in the letter.
-first_differs : {rest : List ℕ} → 114 ∷ [] ≡ take 1 (115 ∷ rest) → ⊥
-first_differs is = cc
+-- The bytes read are the first of the input, which ends behind them where there is room for more.
+front-decides : (most n : ℕ) (room rest : List ℕ) → n ≤ length room → length room ≡ most → (n < length room → rest ≡ [])
+    → take most (take n room ++ rest) ≡ take n room
+front-decides most n room rest within full ends = by (dec_lt n (length room))
+  where
+    by : Dec (n < length room) → take most (take n room ++ rest) ≡ take n room
+    by (yes short) =
+        ap (λ (behind : List ℕ). take most (take n room ++ behind)) (ends short)
+        ∙ ap (take most) (append-nil (take n room))
+        ∙ take_all most (take n room) (omega (arith, length-take n room))
+    by (no filled) = take_at (take n room) rest most (omega (arith, length-take n room))
+
+-- What starts with the letter s does not start with r.
+first_differs : (output rest : List ℕ) → take 1 output ≡ 114 ∷ [] → output ≡ 115 ∷ rest → ⊥
+first_differs output rest letter is =
+    absurd (omega (arith, ap (λ (bytes : List ℕ). get_or bytes 0 0) (sym letter ∙ ap (take 1) is)))
 
 -- A sheet starts with the letter s, of the word side; so what starts with another is the line of a refusal.
 letter-refuses : (way : Way) (at : Option Side) (text output : List ℕ) → AnsweredBy way at text output → Writable way at text output
 unfolding sheet_with
 letter-refuses way None text output (is_refusal_line {number} refused line) letter = (number, refused)
-letter-refuses way None text output (list_sheet for) letter = absurd (first_differs (sym letter ∙ ap (take 1) for.right.prints))
+letter-refuses way None text output (list_sheet for) letter = absurd (first_differs output _ letter for.right.prints)
 letter-refuses way (Some side) text output (refusal_at {number} refused line) letter = (number, refused)
-letter-refuses way (Some side) text output (is_sheet_at for) letter = absurd (first_differs (sym letter ∙ ap (take 1) for.placed.prints))
+letter-refuses way (Some side) text output (is_sheet_at for) letter = absurd (first_differs output _ letter for.placed.prints)
 
-module _ {E : Type 0} {way : Way} {at : Option Side} {start room : List ℕ} {answer : Answer} {buffer : List ℕ}
-    (replied : Replied {E = E} way at start room (Ok answer) buffer) where
-  -- The bytes read lie within the room, and the output within the buffer.
+module _ {way : Way} {at : Option Side} {start room : List ℕ} {answer : Answer} {buffer : List ℕ}
+    (replied : Whole way at start room answer buffer) where
+  -- What `Replied` says of an answer. The bytes read lie within the room, and the output within the buffer.
   pub replied-within : (answer.read ≤ length room) × (answer.written ≤ length buffer)
   replied-within = (replied.all_read.finished.within, replied.is_output_for.within)
 
@@ -92,12 +106,14 @@ module _ {E : Type 0} {way : Way} {at : Option Side} {start room : List ℕ} {an
   replied-known None left brought ends = tt
   replied-known (Some input) None brought ends = absurd brought
   replied-known (Some input) (Some rest) brought ends =
-      replied-output input (ap (take longest_text) brought ∙ ?)
+      replied-output input
+      (ap (take longest_text) brought
+      ∙ front-decides longest_text answer.read room rest replied.all_read.finished.within replied.size ends)
 
 -- Where there is no output, reading came to a read that failed.
-pub replied-unread : {E : Type 0} (way : Way) (at : Option Side) {start room : List ℕ} {e : E} (buffer : List ℕ)
+pub replied-unread : {E : Type 0} (way : Way) (at : Option Side) {start room : List ℕ} (e : E) (buffer : List ℕ)
     → Replied way at start room (Err e) buffer → (reading : Reading) × (InputReads start reading room × (reading.last ≡ Failed))
-replied-unread way at buffer replied =
+replied-unread way at e buffer replied =
     (replied.failed_read.reading, (replied.failed_read.reads, replied.failed_read.failed))
 
 -- Reading before its last read: bytes might still come, those that had come stay, and those of the last read are counted.

@@ -18,7 +18,7 @@ pub(crate) struct How {
 fn is_above(word: &Word) -> bool
     ensures { result ≡ is_above word.now }
 {
-    word.text() == b"above"
+    word.text() == b"above".as_slice()
 }
 
 // The word free, and a word that starts with a digit, ask for the side that they write, be it one or not; other words ask for none.

@@ -11,14 +11,13 @@ use Rattle.plan.specs.declared.number.Coordinate.{Coordinate}
 use Rattle.plan.specs.declared.number.Coordinate.TheVariants.{At, Nowhere}
 use Rattle.plan.specs.declared.number.PlaceRead.{PlaceRead}
 use Rattle.plan.specs.declared.plan.Plan.{Plan}
-use Rattle.plan.specs.declared.plan.Planned.{Planned}
 use Rattle.plan.specs.declared.refusal.Refusal.{Refusal}
 use Rattle.plan.specs.declared.refusal.Refusal.TheVariants as why
 use Rattle.plan.specs.rules.Refusal.{Test, ◌gives◌, first_refusal, Result, refused, unless, after_tests}
 use Rattle.plan.specs.rules.Text.{most_name_bytes, is_name, or_zero}
 use Rattle.plan.specs.rules.List.{Site, place_at, ByRules, Wanted, enter_tests, entered, is_coordinate}
 use Rattle.plan.specs.calls.Plan.{unplaced_plan, name_of, name_held, Valid}
-use Rattle.plan.specs.calls.Answers.{handed, Outcome}
+use Rattle.plan.specs.calls.Answers.{handed, Outcome, Planned}
 use Rattle.plan.specs.theorems.Entering.{Passed, coordinate-fits}
 use Rattle.plan.specs.theorems.Plan.{Holding}
 use Rattle.plan.specs.code.NameRead.{Padded, name_read, name_where}

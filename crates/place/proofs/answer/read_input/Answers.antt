@@ -12,17 +12,17 @@ loop-at-init g c = record { within = omega arith; reads = (0, none_yet); bytes =
 pub returns-in_err-n-clause-reads : goal.returns-in_err-n-clause-reads
 returns-in_err-n-clause-reads g c =
     let p = err_from_is_err_and c.from_residual.result c.from_residual.ensures.1 in
-    rw p.1 (failed-to c.loop-at.invariant.reads.1 c.loop-at-test.true c.read_once.result c.read_once.ensures.behind c.in_err-n.was)
+    rw p.1 (failed-to c.loop-at.invariant.reads.1 (omega arith) c.read_once.result c.read_once.ensures.behind c.in_err-n.was)
 
 pub returns-then-n-eq0-clause-reads : goal.returns-then-n-eq0-clause-reads
 returns-then-n-eq0-clause-reads g c =
-    ended-at c.loop-at.invariant.reads.1 c.loop-at-test.true c.read_once.result c.read_once.ensures.behind c.in_ok-n.was c.if-n-eq0.true
+    ended-at c.loop-at.invariant.reads.1 (omega arith) c.read_once.result c.read_once.ensures.behind c.in_ok-n.was c.if-n-eq0.true
 
 pub loop-at-preserved : goal.loop-at-preserved
 loop-at-preserved g c =
     let once = c.read_once.ensures in
     let come =
-    come-to c.loop-at.invariant.reads.1 c.loop-at-test.true c.read_once.result once.behind c.in_ok-n.was c.if-n-eq0.false in
+    come-to c.loop-at.invariant.reads.1 (omega arith) c.read_once.result once.behind c.in_ok-n.was c.if-n-eq0.false in
     record {
       within = come.0;
       reads = come.1;

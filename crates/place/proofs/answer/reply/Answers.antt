@@ -9,7 +9,7 @@ replied : (g : _) (c : After-put_output-written g) → Whole c.args.how.way c.ar
     (record { read = c.in_ok-read.read; written = c.put_output-written.result }) c.put_output-written.new.buffer
 replied g c =
     record {
-      all_read = c.in_ok-read.ensures.reads;
+      all_read = search rules;
       size = search rules;
       is_output_for = is_output_for _ _ _ _ c.put_output-written.ensures.length c.put_output-written.ensures.buffer;
     }

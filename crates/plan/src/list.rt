@@ -3,7 +3,7 @@ ghost use Rattle.std.specs.Prelude.{◌≡◌, [], ◌∷◌, ◌≤◌, length}
 ghost use Rattle.plan.specs.rules.Refusal.{first_refusal};
 ghost use Rattle.plan.specs.rules.Text.{fields_of};
 ghost use Rattle.plan.specs.calls.Plan.{sites_in, Valid};
-ghost use Rattle.plan.specs.calls.Answers.{read_from};
+ghost use Rattle.plan.specs.calls.Answers.{started, read_from};
 ghost use Rattle.plan.specs.Demands.{ReadTold, StopTold};
 ghost use Rattle.plan.specs.code.Entering.{NameFits, outcome_of};
 ghost use Rattle.plan.specs.code.Line.{LineEnds, FieldEnd, LineReads, NoFields, read_tests};
@@ -12,8 +12,8 @@ ghost use Rattle.plan.specs.code.Reading.{LinesReads};
 use crate::limits::TextLimits;
 use crate::name::{NameRead, name_from};
 use crate::number::{Coordinate, PlaceRead, coordinate_from, place_at};
-use crate::plan::{Plan, Planned, enter_outcome, refuse};
-use crate::refusal::{Outcome, Refusal};
+use crate::plan::Plan;
+use crate::refusal::Refusal;
 
 // Where a line ends: the place of its line feed, if it has one in time.
 #[derive(Clone, Copy)]
@@ -30,28 +30,12 @@ pub(crate) struct LineRead {
     pub place: PlaceRead,
 }
 
-// What reading line after line hands back: the answer of the last one, the plan of those accepted, and where a refused line starts, else
-// the text's end.
-#[derive(Clone, Copy)]
-pub(crate) struct LinesRead {
-    pub outcome: Outcome,
-    pub plan: Plan,
-    pub at: usize,
-}
-
 // The line at which reading a list stops: its number, counted from 1, where it starts, and why it is refused.
 #[derive(Clone, Copy)]
 pub struct RefusedLine {
     pub number: usize,
     pub at: usize,
     pub why: Refusal,
-}
-
-// Where reading a list stops: at a line that is refused, or nowhere, since every line is accepted.
-#[derive(Clone, Copy)]
-pub enum Stop {
-    AtLine(RefusedLine),
-    Nowhere,
 }
 
 // The end of the line that starts at `at`: a line feed behind at most the bytes of a line.
@@ -131,88 +115,59 @@ fn read_line(line: &[u8]) -> LineRead
     read_fields(&line[..first], &line[from_x..second], &line[from_y..])
 }
 
-// What the tests of entering a line come to: 1 for its fields, then theirs.
-fn line_outcome(plan: Plan, line: LineRead) -> Outcome
-    requires { Valid plan × NameFits line.name }
-    ensures { result ≡ outcome_of (first_refusal (read_tests (sites_in plan) line)) }
-{
-    if !line.three {
-        return Outcome::Refused(Refusal::BadLine);
-    }
-    let name = line.name;
-    let place = line.place;
-    enter_outcome(plan, name, place)
-}
-
-// Reading stops at the line that starts at `at`.
-fn stopped(plan: Plan, at: usize, why: Refusal) -> LinesRead
-    ensures { result ≡ record { outcome = Outcome.Refused why; plan = plan; at = at } }
-{
-    let outcome = Outcome::Refused(why);
-    LinesRead { outcome, plan, at }
-}
-
-// Reads line after line into a fresh plan, up to the first refused line or the text's end.
-fn read_lines(text: &[u8]) -> LinesRead
-    ensures { LinesReads text.now result }
-{
-    let mut plan = Plan::start();
-    let mut at = 0;
-    while at < text.len() {
-        let LineEnd::At(end) = line_end(text, at) else {
-            return stopped(plan, at, Refusal::BadLine);
-        };
-        let line = read_line(&text[at..end]);
-        let outcome = line_outcome(plan, line);
-        if let Outcome::Refused(why) = outcome {
-            return stopped(plan, at, why);
+impl Plan {
+    // What the tests of entering a line come to: 1 for its fields, then theirs.
+    fn line_outcome(&self, line: LineRead) -> Result<(), Refusal>
+        requires { Valid self.now × NameFits line.name }
+        ensures { result ≡ outcome_of (first_refusal (read_tests (sites_in self.now) line)) }
+    {
+        if !line.three {
+            return Err(Refusal::BadLine);
         }
-        let n = plan.count;
-        let name = line.name.name;
-        let place = line.place.place;
-        plan.names[n] = name;
-        plan.places[n] = place;
-        plan.count = n + 1;
-        at = end + 1;
+        self.enter_outcome(line.name, line.place)
     }
-    LinesRead {
-        outcome: Outcome::Done,
-        plan,
-        at,
-    }
-}
 
-// Reads a whole list into a fresh plan, or refuses it at its first refused line.
-pub fn read(text: &[u8]) -> Planned
-    ensures answer { result ≡ read_from text.now }
-    ensures valid { Valid result.plan }
-    ensures told { ReadTold text.now result }
-{
-    let lines = read_lines(text);
-    let outcome = lines.outcome;
-    if let Outcome::Refused(why) = outcome {
-        return refuse(Plan::start(), why);
+    // Reads line after line into an empty plan, up to the first refused line or the text's end.
+    fn read_lines(&mut self, text: &[u8]) -> Result<(), RefusedLine>
+        requires { self.old ≡ started }
+        ensures { LinesReads text.now result self.new }
+    {
+        let mut at = 0;
+        while at < text.len() {
+            let number = self.count + 1;
+            let LineEnd::At(end) = line_end(text, at) else {
+                let why = Refusal::BadLine;
+                return Err(RefusedLine { number, at, why });
+            };
+            let line = read_line(&text[at..end]);
+            if let Err(why) = self.line_outcome(line) {
+                return Err(RefusedLine { number, at, why });
+            }
+            self.add(line.name.name, line.place.place);
+            at = end + 1;
+        }
+        Ok(())
     }
-    let plan = lines.plan;
-    Planned {
-        outcome: Outcome::Done,
-        plan,
+
+    // Reads a whole list, or refuses it at its first refused line; the plan is then empty.
+    pub fn read(&mut self, text: &[u8]) -> Result<(), Refusal>
+        ensures answer { record { outcome = result; plan = self.new } ≡ read_from text.now }
+        ensures valid { Valid self.new }
+        ensures told { ReadTold text.now (record { outcome = result; plan = self.new }) }
+    {
+        *self = Plan::start();
+        if let Err(line) = self.read_lines(text) {
+            *self = Plan::start();
+            return Err(line.why);
+        }
+        Ok(())
     }
 }
 
 // The line at which `read` stops, if it stops at one.
-pub fn refused_line(text: &[u8]) -> Stop
+pub fn refused_line(text: &[u8]) -> Option<RefusedLine>
     ensures { StopTold text.now result }
 {
-    let lines = read_lines(text);
-    let outcome = lines.outcome;
-    let Outcome::Refused(why) = outcome else {
-        return Stop::Nowhere;
-    };
-    let before = lines.plan;
-    Stop::AtLine(RefusedLine {
-        number: before.count + 1,
-        at: lines.at,
-        why,
-    })
+    let mut plan = Plan::start();
+    plan.read_lines(text).err()
 }

@@ -1,5 +1,5 @@
 // A plan: the sites of one level in list order and, once it is placed, the way, its side and corners.
-ghost use Rattle.std.specs.Prelude.{◌≡◌, ◌≤◌};
+ghost use Rattle.std.specs.Prelude.{◌≡◌, ◌≤◌, ◌<◌};
 ghost use Rattle.placing.specs.rules.Units.{most_sites};
 ghost use Rattle.placing.specs.deciding.Tests.{same_place};
 ghost use Rattle.plan.specs.rules.Refusal.{first_refusal};
@@ -7,13 +7,13 @@ ghost use Rattle.plan.specs.rules.List.{enter_tests, entered};
 ghost use Rattle.plan.specs.calls.Plan.{unplaced_plan, name_held, sites_in, Valid};
 ghost use Rattle.plan.specs.calls.Answers.{started, handed};
 ghost use Rattle.plan.specs.code.NameRead.{Padded};
-ghost use Rattle.plan.specs.code.PlanLaws.{unplaced_of, placed_of};
+ghost use Rattle.plan.specs.code.PlanLaws.{one_more};
 ghost use Rattle.plan.specs.code.Taken.{PaddedNames, names_taken, places_taken};
 ghost use Rattle.plan.specs.code.Entering.{NameFits, PlaceFits, wanted_read, outcome_of, rows};
 
 use crate::name::{Name, NameRead, same_name};
 use crate::number::PlaceRead;
-use crate::refusal::{Outcome, Refusal};
+use crate::refusal::Refusal;
 use placing::units::{Limits, Place, Side, Units};
 use placing::way::Way;
 
@@ -30,56 +30,20 @@ pub struct Plan {
     pub corners: [u8; Limits::SITES],
 }
 
-// What entering, reading and choosing hand back: the answer, and the plan afterwards.
-#[derive(Clone, Copy)]
-pub struct Planned {
-    pub outcome: Outcome,
-    pub plan: Plan,
-}
-
-// The answer when the side is asked or found.
-#[derive(Clone, Copy)]
-pub enum AskedSide {
-    SideIs(Side),
-    NoSide(Refusal),
-}
-
-// The answer when a corner is asked.
-#[derive(Clone, Copy)]
-pub enum AskedCorner {
-    CornerIs(u8),
-    NoCorner(Refusal),
-}
-
-// The answer of writing: how many bytes were written.
-#[derive(Clone, Copy)]
-pub enum Written {
-    Bytes(usize),
-    NotWritten(Refusal),
-}
-
 impl Plan {
     // The plan of no sites.
     pub fn start() -> Plan
         ensures answer { result ≡ started }
         ensures valid { Valid result }
     {
-        let none = Name::none();
         let nowhere = Place {
             x: Units(0),
             y: Units(0),
         };
-        Plan::unplaced(0, [none; Limits::SITES], [nowhere; Limits::SITES])
-    }
-
-    // The plan of this many sites, with their names and places, that is not placed.
-    fn unplaced(count: usize, names: [Name; Limits::SITES], places: [Place; Limits::SITES]) -> Plan
-        ensures { result ≡ unplaced_of count names places }
-    {
         Plan {
-            count,
-            names,
-            places,
+            count: 0,
+            names: [Name::none(); Limits::SITES],
+            places: [nowhere; Limits::SITES],
             placed: false,
             way: Way::Usual,
             side: Side::Free,
@@ -87,30 +51,41 @@ impl Plan {
         }
     }
 
-    // The plan placed by a way at a side with these corners.
-    pub(crate) fn placed_at(plan: Plan, way: Way, side: Side, corners: [u8; Limits::SITES]) -> Plan
-        ensures { result ≡ placed_of plan.count plan.names plan.places way side corners }
+    // What the tests of entering a name and a place, as they were read, come to.
+    pub(crate) fn enter_outcome(&self, name: NameRead, place: PlaceRead) -> Result<(), Refusal>
+        requires { Valid self.now × NameFits name }
+        ensures { result ≡ outcome_of (first_refusal (enter_tests (sites_in self.now) (wanted_read name place))) }
     {
-        let names = plan.names;
-        let places = plan.places;
-        Plan {
-            count: plan.count,
-            names,
-            places,
-            placed: true,
-            way,
-            side,
-            corners,
-        }
+        let n = self.count;
+        let named = name_taken(self.names, n, name.name);
+        let placed = place_taken(self.places, n, place.place);
+        first_failed(!name.ok, !place.ok, n >= Limits::SITES, named, placed)
     }
-}
 
-// A refusal, with the plan as it came.
-pub(crate) fn refuse(plan: Plan, why: Refusal) -> Planned
-    ensures { result ≡ record { outcome = Outcome.Refused why; plan = plan } }
-{
-    let outcome = Outcome::Refused(why);
-    Planned { outcome, plan }
+    // One site more, at the end. The plan is not placed afterwards.
+    pub(crate) fn add(&mut self, name: Name, place: Place)
+        requires { self.old.count < most_sites }
+        ensures { self.new ≡ one_more self.old name place }
+    {
+        self.names[self.count] = name;
+        self.places[self.count] = place;
+        self.count += 1;
+        self.placed = false;
+        self.way = Way::Usual;
+        self.side = Side::Free;
+        self.corners = [0u8; Limits::SITES];
+    }
+
+    // One site more, whose name and place were read.
+    pub(crate) fn enter_read(&mut self, name: NameRead, place: PlaceRead) -> Result<(), Refusal>
+        requires { Valid self.old × NameFits name × PlaceFits place }
+        ensures answer { record { outcome = result; plan = self.new } ≡ handed unplaced_plan self.old (entered (sites_in self.old) (wanted_read name place)) }
+        ensures valid { Valid self.new }
+    {
+        self.enter_outcome(name, place)?;
+        self.add(name.name, place.place);
+        Ok(())
+    }
 }
 
 // Whether one of the first `n` names is this one.
@@ -152,60 +127,29 @@ fn place_taken(places: [Place; Limits::SITES], n: usize, place: Place) -> bool
 }
 
 // The order of document 01's tests, 2, 3, 7, 4, 5, over which of them fail.
-fn first_failed(unnamed: bool, outside: bool, full: bool, named: bool, placed: bool) -> Outcome
+fn first_failed(
+    unnamed: bool,
+    outside: bool,
+    full: bool,
+    named: bool,
+    placed: bool,
+) -> Result<(), Refusal>
     ensures { result ≡ outcome_of (first_refusal (rows unnamed outside full named placed)) }
 {
     if unnamed {
-        return Outcome::Refused(Refusal::BadName);
+        return Err(Refusal::BadName);
     }
     if outside {
-        return Outcome::Refused(Refusal::BadNumber);
+        return Err(Refusal::BadNumber);
     }
     if full {
-        return Outcome::Refused(Refusal::Full);
+        return Err(Refusal::Full);
     }
     if named {
-        return Outcome::Refused(Refusal::NameTaken);
+        return Err(Refusal::NameTaken);
     }
     if placed {
-        return Outcome::Refused(Refusal::PlaceTaken);
+        return Err(Refusal::PlaceTaken);
     }
-    Outcome::Done
-}
-
-// What the tests of entering a name and a place, as they were read, come to.
-pub(crate) fn enter_outcome(plan: Plan, name: NameRead, place: PlaceRead) -> Outcome
-    requires { Valid plan × NameFits name }
-    ensures { result ≡ outcome_of (first_refusal (enter_tests (sites_in plan) (wanted_read name place))) }
-{
-    let n = plan.count;
-    let names = plan.names;
-    let places = plan.places;
-    let named = name_taken(names, n, name.name);
-    let placed = place_taken(places, n, place.place);
-    first_failed(!name.ok, !place.ok, n >= Limits::SITES, named, placed)
-}
-
-// The plan with one site more, whose name and place were read. The plan is not placed afterwards.
-pub(crate) fn enter_read(plan: Plan, name: NameRead, place: PlaceRead) -> Planned
-    requires { Valid plan × NameFits name × PlaceFits place }
-    ensures answer { result ≡ handed unplaced_plan plan (entered (sites_in plan) (wanted_read name place)) }
-    ensures valid { Valid result.plan }
-{
-    let outcome = enter_outcome(plan, name, place);
-    if let Outcome::Refused(why) = outcome {
-        return refuse(plan, why);
-    }
-    let n = plan.count;
-    let mut names = plan.names;
-    let mut places = plan.places;
-    let called = name.name;
-    let spot = place.place;
-    names[n] = called;
-    places[n] = spot;
-    let more = Plan::unplaced(n + 1, names, places);
-    Planned {
-        outcome: Outcome::Done,
-        plan: more,
-    }
+    Ok(())
 }

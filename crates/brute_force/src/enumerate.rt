@@ -88,8 +88,11 @@ impl Rules {
         }
     }
 
-    // The limit that another label sets for this one.
+    // The limit that a label and another one set for the first; no limit where they are of one site.
     fn pair_limit(self, mine: Label, other: Label) -> Side {
+        if mine.place == other.place {
+            return Side::Free;
+        }
         let meeting = meeting_limit(mine, other);
         if self.crowding {
             meeting.min(crowding_limit(mine, other.place))
@@ -98,29 +101,27 @@ impl Rules {
         }
     }
 
-    // The least limit that the other labels set for this one.
-    fn label_limit(self, mine: Label, labels: &[Label]) -> Side {
-        labels
-            .iter()
-            .filter(|other| other.place != mine.place)
-            .map(|other| self.pair_limit(mine, *other))
-            .min()
-            .unwrap_or(Side::Free)
-    }
-
-    // The limit of these labels, where it is above `floor`.
-    fn limit_above(self, labels: &[Label], floor: Side) -> Option<Side> {
-        labels.iter().try_fold(Side::Free, |least, mine| {
-            let limit = self.label_limit(*mine, labels);
-            (limit > floor).then_some(limit.min(least))
+    // All limits of these labels pass this test.
+    fn all_limits<F: Fn(Side) -> bool>(self, labels: &[Label], passes: F) -> bool
+        requires { F.IsAlwaysCallable passes }
+    {
+        labels.iter().all(|mine| {
+            labels
+                .iter()
+                .all(|other| passes(self.pair_limit(*mine, *other)))
         })
     }
 
-    // No rule forbids the side.
-    fn are_good(self, labels: &[Label], side: Side) -> bool {
-        labels
-            .iter()
-            .all(|mine| side <= self.label_limit(*mine, labels))
+    // The least limit of these labels.
+    fn limit(self, labels: &[Label]) -> Side {
+        let of_label = |mine: &Label| {
+            labels
+                .iter()
+                .map(|other| self.pair_limit(*mine, *other))
+                .min()
+                .unwrap_or(Side::Free)
+        };
+        labels.iter().map(of_label).min().unwrap_or(Side::Free)
     }
 
     // How many lists of corners 1 to `last` the labels have.
@@ -145,9 +146,12 @@ impl Rules {
         let mut most = floor;
         for number in 0..self.count(labels) {
             self.set_corners(labels, number);
-            if let Some(limit) = self.limit_above(labels, most) {
-                most = limit;
-                best = Some(Choice { number, limit });
+            if self.all_limits(labels, |limit| limit > most) {
+                most = self.limit(labels);
+                best = Some(Choice {
+                    number,
+                    limit: most,
+                });
             }
         }
         best
@@ -179,7 +183,7 @@ pub fn enumerate_at(
     let mut labels = labels_of(alloc, sites, &FIRST)?;
     for number in 0..rules.count(&labels) {
         rules.set_corners(&mut labels, number);
-        if rules.are_good(&labels, side) {
+        if rules.all_limits(&labels, |limit| limit >= side) {
             return Ok(Answer {
                 side,
                 labels: Some(labels),

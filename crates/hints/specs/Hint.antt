@@ -1,6 +1,6 @@
 -- Which hint a refused line has: the first of some common causes that shows in its bytes.
 -- Assumes nothing.
-use Rattle.std.specs.Prelude.{Bool, true, false, not, ◌&&◌, ◌||◌, List, [], ◌∷◌, ℕ, eqb, leb, length, Option, Some, None}
+use Rattle.std.specs.Prelude.{Bool, true, false, not, ◌&&◌, ◌||◌, List, [], ◌∷◌, ℕ, eqb, leb, length, Option, Some, None, codes}
 use Rattle.plan.specs.rules.Text.{tab}
 use Rattle.plan.specs.rules.List.{most_line_bytes, among, TextLine}
 use Rattle.hints.specs.declared.Hint.{Hint}
@@ -86,3 +86,18 @@ hint_of number line = first_hint (hint_tests number line)
 -- A line by its bytes and whether it is ended: no test looks at what follows.
 abbrev pub line_of : List ℕ → Bool → TextLine
 line_of bytes ended = record { bytes = bytes; ended = ended; rest = [] }
+
+-- ---- in words
+
+-- The cause in words, and what to do about it.
+abbrev pub hint_text : Hint → List ℕ
+hint_text ByteOrderMark = codes "it starts with a byte order mark; save the list as plain text without one"
+hint_text Empty = codes "it is empty; leave no empty lines"
+hint_text CarriageReturn = codes "it has a carriage return; end each line with a line feed alone"
+hint_text NoLineFeed = codes "it has no line feed at its end; the last line needs one too"
+hint_text LongLine = codes "it is over 20 bytes long; a line has a name, x and y alone"
+hint_text Heading = codes "it has no digit; if it is a heading row, leave it out"
+hint_text EndTab = codes "it ends in a tab with nothing behind it"
+hint_text Separator = codes "it has a space, a comma or a semicolon; a list has one tab between two fields and none of these"
+hint_text LowerCase = codes "it has lower-case letters; the letters of a list are A to Z"
+hint_text Point = codes "it has a point; names and coordinates have none"

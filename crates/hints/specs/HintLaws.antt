@@ -17,7 +17,7 @@ use Rattle.plan.specs.theorems.Text.{and_both, decimal-writes}
 use Rattle.plan.specs.theorems.Tables.{rest-none, unless-accepted}
 use Rattle.plan.specs.theorems.Entering.{Passed, tests-passed}
 use Rattle.plan.specs.theorems.Reading.{entered-line}
-use Rattle.hints.specs.Hint.{within, has, has_separator, ends_in, starts_with, starts_with_mark, lacks_feed, is_heading, hint_of}
+use Rattle.hints.specs.Hint.{within, has, has_separator, ends_in, starts_with, starts_with_mark, is_heading, hint_of}
 use Rattle.hints.specs.TestLaws.{ends-behind}
 
 -- ---- the bytes of an accepted line

@@ -30,6 +30,11 @@ pub enum Hint {
 
 // The cause in words, and what to do about it.
 impl fmt::Display for Hint {
+    ghost use Rattle.std.specs.Prelude.{Some};
+    ghost use Rattle.hints.specs.Hint.{hint_text};
+
+    ghost output = { λ hint. Some (hint_text hint) };
+
     fn fmt<W: fmt::Write>(&self, f: &mut fmt::Formatter<W>) -> fmt::Result {
         f.write_str(match self {
             Hint::ByteOrderMark =>

@@ -1,6 +1,6 @@
 -- `has_byte` meets its contract: the library's `any` is the rule's.
 -- Assumes nothing.
-use Rattle.std.proofs.Common.{◌∙◌, ◌≡◌, rules}
+use Rattle.std.proofs.Common.{◌∙◌, rules}
 use Rattle.std.proofs.lemmas.Iterator.{YieldsList-from_slice}
 use Rattle.std.proofs.lemmas.Iterator.Search.{any_from_yields_List}
 use Rattle.hints.specs.Hint.{within}

@@ -1,0 +1,2 @@
+-- What several proofs share: facts about lists.
+mod Copied

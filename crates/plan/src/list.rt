@@ -118,7 +118,7 @@ fn read_line(line: &[u8]) -> LineRead
 impl Plan {
     // What the tests of entering a line come to: 1 for its fields, then theirs.
     fn line_outcome(&self, line: LineRead) -> Result<(), Refusal>
-        requires { Valid self.now × NameFits line.name }
+        requires { NameFits line.name }
         ensures { result ≡ outcome_of (first_refusal (read_tests (sites_in self.now) line)) }
     {
         if !line.three {
@@ -134,7 +134,7 @@ impl Plan {
     {
         let mut at = 0;
         while at < text.len() {
-            let number = self.count + 1;
+            let number = self.count() + 1;
             let LineEnd::At(end) = line_end(text, at) else {
                 let why = Refusal::BadLine;
                 return Err(RefusedLine { number, at, why });
@@ -152,7 +152,6 @@ impl Plan {
     // Reads a whole list, or refuses it at its first refused line; the plan is then empty.
     pub fn read(&mut self, text: &[u8]) -> Result<(), Refusal>
         ensures answer { record { outcome = result; plan = self.new } ≡ read_from text.now }
-        ensures valid { Valid self.new }
         ensures told { ReadTold text.now (record { outcome = result; plan = self.new }) }
     {
         *self = Plan::start();

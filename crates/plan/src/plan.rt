@@ -1,14 +1,14 @@
 // A plan: the sites of one level in list order and, once it is placed, the way, its side and corners.
-ghost use Rattle.std.specs.Prelude.{◌≡◌, ◌≤◌, ◌<◌};
+ghost use Rattle.std.specs.Prelude.{◌≡◌, ◌≤◌, [], ◌∷◌, ◌++◌};
 ghost use Rattle.placing.specs.rules.Units.{most_sites};
 ghost use Rattle.placing.specs.deciding.Tests.{same_place};
 ghost use Rattle.plan.specs.rules.Refusal.{first_refusal};
-ghost use Rattle.plan.specs.rules.List.{enter_tests, entered};
+ghost use Rattle.plan.specs.rules.List.{Listed, enter_tests, entered};
 ghost use Rattle.plan.specs.calls.Plan.{unplaced_plan, name_held, sites_in, Valid};
 ghost use Rattle.plan.specs.calls.Answers.{started, handed};
 ghost use Rattle.plan.specs.code.NameRead.{Padded};
 ghost use Rattle.plan.specs.code.PlanLaws.{one_more};
-ghost use Rattle.plan.specs.code.Taken.{PaddedNames, names_taken, places_taken};
+ghost use Rattle.plan.specs.code.Taken.{site_of, PaddedNames, names_taken, places_taken};
 ghost use Rattle.plan.specs.code.Entering.{NameFits, PlaceFits, wanted_read, outcome_of, rows};
 
 use crate::name::{Name, NameRead, same_name};
@@ -16,25 +16,46 @@ use crate::number::PlaceRead;
 use crate::refusal::Refusal;
 use placing::units::{Limits, Place, Side, Units};
 use placing::way::Way;
+use std::marker::Model;
 
-// Slots past the count hold nothing: a name of no bytes, the place 0, 0 and corner 0. While a plan is not placed, its way is the
-// usual one, its side is free and its corners are 0.
+// How a plan is placed: the way, the side, and the corners in list order, 0 past the last.
 #[derive(Clone, Copy)]
-pub struct Plan {
-    pub count: usize,
-    pub names: [Name; Limits::SITES],
-    pub places: [Place; Limits::SITES],
-    pub placed: bool,
+pub struct Placement {
     pub way: Way,
     pub side: Side,
     pub corners: [u8; Limits::SITES],
 }
 
+// Slots past the count hold nothing: a name of no bytes and the place 0, 0.
+#[derive(Clone, Copy)]
+pub struct Plan {
+    pub(crate) count: usize,
+    pub(crate) names: [Name; Limits::SITES],
+    pub(crate) places: [Place; Limits::SITES],
+    pub(crate) placement: Option<Placement>,
+}
+
+// Every plan is one that the calls hand back.
+impl Model for Plan {
+    ghost use Rattle.plan.specs.calls.Plan.{PlanRecord, Valid};
+
+    ghost Value = { PlanRecord };
+
+    ghost use Rattle.plan.specs.calls.Fields.{plan_of, fields_in, fields-back};
+
+    ghost view = { plan_of };
+
+    ghost invariant = { λ fields. Valid (plan_of fields) };
+
+    ghost inverse = { fields_in };
+
+    ghost inverse_ok = { λ fields valid. fields-back fields };
+}
+
 impl Plan {
     // The plan of no sites.
     pub fn start() -> Plan
-        ensures answer { result ≡ started }
-        ensures valid { Valid result }
+        ensures { result ≡ started }
     {
         let nowhere = Place {
             x: Units(0),
@@ -44,17 +65,15 @@ impl Plan {
             count: 0,
             names: [Name::none(); Limits::SITES],
             places: [nowhere; Limits::SITES],
-            placed: false,
-            way: Way::Usual,
-            side: Side::Free,
-            corners: [0u8; Limits::SITES],
+            placement: None,
         }
     }
 
     // What the tests of entering a name and a place, as they were read, come to.
     pub(crate) fn enter_outcome(&self, name: NameRead, place: PlaceRead) -> Result<(), Refusal>
-        requires { Valid self.now × NameFits name }
-        ensures { result ≡ outcome_of (first_refusal (enter_tests (sites_in self.now) (wanted_read name place))) }
+        requires { NameFits name }
+        ensures outcome { result ≡ outcome_of (first_refusal (enter_tests (sites_in self.now) (wanted_read name place))) }
+        ensures valid { Valid self.now }
     {
         let n = self.count;
         let named = name_taken(self.names, n, name.name);
@@ -64,21 +83,18 @@ impl Plan {
 
     // One site more, at the end. The plan is not placed afterwards.
     pub(crate) fn add(&mut self, name: Name, place: Place)
-        requires { self.old.count < most_sites }
+        requires { Padded name × Listed (sites_in self.old ++ (site_of name place ∷ [])) }
         ensures { self.new ≡ one_more self.old name place }
     {
         self.names[self.count] = name;
         self.places[self.count] = place;
         self.count += 1;
-        self.placed = false;
-        self.way = Way::Usual;
-        self.side = Side::Free;
-        self.corners = [0u8; Limits::SITES];
+        self.placement = None;
     }
 
     // One site more, whose name and place were read.
     pub(crate) fn enter_read(&mut self, name: NameRead, place: PlaceRead) -> Result<(), Refusal>
-        requires { Valid self.old × NameFits name × PlaceFits place }
+        requires { NameFits name × PlaceFits place }
         ensures answer { record { outcome = result; plan = self.new } ≡ handed unplaced_plan self.old (entered (sites_in self.old) (wanted_read name place)) }
         ensures valid { Valid self.new }
     {

@@ -3,7 +3,7 @@
 use Rattle.std.specs.Prelude.{◌≡◌, refl, Bool, true, false, List, [], ◌∷◌, ◌++◌, ℕ, ◌+◌, ◌≤◌, ◌<◌, length, drop, Some, None, Ok, Err}
 use Rattle.std.specs.Prelude as rattle
 use Rattle.std.specs.Result.{result_err}
-use Rattle.std.proofs.Common.{sym, ◌∙◌, arith, le-ltb, lt-ltb, length-drop, drop_of_length-le}
+use Rattle.std.proofs.Common.{sym, subst, ◌∙◌, arith, le-ltb, lt-ltb, length-drop, drop_of_length-le}
 use Rattle.std.proofs.Math.Path.{ap}
 use Rattle.std.proofs.Math.Option.{Option, none}
 use Rattle.placing.specs.rules.Units.{most_sites}
@@ -19,7 +19,7 @@ use Rattle.plan.specs.rules.List.{Site, Listed, with_site, list_text, most_line_
 use Rattle.plan.specs.rules.List.{Reads, end, refused_line, accepted_line}
 use Rattle.plan.specs.deciding.Reading.{cut_line}
 use Rattle.plan.specs.calls.Plan.{unplaced_plan, sites_in, Valid, is_unplaced}
-use Rattle.plan.specs.calls.Answers.{started, handed, read_from, Outcome}
+use Rattle.plan.specs.calls.Answers.{started, counted, handed, read_from, Outcome}
 use Rattle.plan.specs.Demands.{StopTold, at_a_line, at_no_line}
 use Rattle.plan.specs.theorems.Sites.{listed-none}
 use Rattle.plan.specs.theorems.Reading.{cut-first-line, first-line-whole, LineOf, entered-line, list-one-more}
@@ -71,17 +71,21 @@ module _ {text : List ℕ} {plan : Plan} {at : ℕ} (so_far : Reading text plan 
   unfolding unplaced_plan
   reading-few = omega (arith, so_far.listed.few, ap (λ (p : Plan). p.count) so_far.held)
 
+  -- The number of the line behind them.
+  one_behind : {n : ℕ} → n ≡ counted plan → n + 1 ≡ plan.count + 1
+  one_behind count = ap (λ (m : ℕ). m + 1) (count ∙ sym (valid-holding reading-valid).count)
+
   -- At the text's end, every line is accepted.
   reading-all : length text ≤ at → Reads [] text (accepted so_far.sites)
   reading-all past = so_far.onward (accepted so_far.sites) (rw (drop_of_length-le text past) end)
 
   -- Before it, without a whole line from there on, reading stops.
-  pub reading-missing : at < length text → LineEnds text at Missing
-      → LinesReads text (Err (record { number = plan.count + 1; at = at; why = BadLine })) plan
-  reading-missing further missing =
+  pub reading-missing : {n : ℕ} → n ≡ counted plan → at < length text → LineEnds text at Missing
+      → LinesReads text (Err (record { number = n + 1; at = at; why = BadLine })) plan
+  reading-missing count further missing =
       let line = cut_line (drop at text) in
       let first = cut-first-line (drop at text) (omega (arith, length-drop at text)) in
-      stops so_far refl first (by_end line.ended line.bytes line.rest (missing line first))
+      stops so_far (one_behind count) first (by_end line.ended line.bytes line.rest (missing line first))
     where
       by_end : (ended : Bool) (bytes rest : List ℕ) → (ended ≡ true → most_line_bytes < length bytes)
           → line_entered so_far.sites (record { bytes = bytes; ended = ended; rest = rest }) ≡ refused BadLine
@@ -103,8 +107,8 @@ module _ {text : List ℕ} {plan : Plan} {at : ℕ} (so_far : Reading text plan 
 
     -- Refused, reading stops.
     pub reading-refused : {why : Refusal} → outcome ≡ Err why
-        → LinesReads text (Err (record { number = plan.count + 1; at = at; why = why })) plan
-    reading-refused so = stops so_far refl found.first (line_is ∙ outcome-refuses (read_tests (sites_in plan) line) is next so)
+        → {n : ℕ} → n ≡ counted plan → LinesReads text (Err (record { number = n + 1; at = at; why = why })) plan
+    reading-refused so count = stops so_far (one_behind count) found.first (line_is ∙ outcome-refuses (read_tests (sites_in plan) line) is next so)
 
     -- Accepted, there is room for its site,
     module _ (so : outcome ≡ Ok tt) where
@@ -114,7 +118,7 @@ module _ {text : List ℕ} {plan : Plan} {at : ℕ} (so_far : Reading text plan 
       passed : Passed (sites_in plan) (wanted_read line.name line.place)
       passed = tests-passed (rest-none 1 (read_tests (sites_in plan) line) none_holds)
 
-      pub reading-room : plan.count < most_sites
+      reading-room : plan.count < most_sites
       reading-room = omega (arith, (valid-holding reading-valid).count, passed.room)
 
       -- and with it one line more is read.
@@ -124,13 +128,16 @@ module _ {text : List ℕ} {plan : Plan} {at : ℕ} (so_far : Reading text plan 
       held_next : with_read plan line ≡ unplaced_plan next
       held_next = holding-more (valid-holding reading-valid) line.name.name line.place.place reads.fits.padded reading-room
 
+      pub reading-listed : Listed next
+      reading-listed = let of : LineOf so_far.sites (line_at text at end) next = entered-line accepts in of.next_listed so_far.listed
+
       pub reading-on : Reading text (with_read plan line) (end + 1)
       reading-on =
           let of : LineOf so_far.sites (line_at text at end) next = entered-line accepts in
           record {
             sites = next;
             held = held_next;
-            listed = of.next_listed so_far.listed;
+            listed = reading-listed;
             within = omega (arith, found.inside);
             parts =
                 so_far.parts
@@ -145,11 +152,11 @@ module _ {text : List ℕ} {plan : Plan} {at : ℕ} (so_far : Reading text plan 
 
 module _ {text : List ℕ} where
   -- Where it stopped at a line, the text is refused, and a refusal hands back an empty plan.
-  pub lines-refused : {stop : RefusedLine} {plan fresh : Plan} → LinesReads text (Err stop) plan → (fresh ≡ started) × Valid fresh
+  pub lines-refused : {stop : RefusedLine} {plan fresh : Plan} → LinesReads text (Err stop) plan → fresh ≡ started
       → (refusal-of fresh stop.why ≡ read_from text) × Valid fresh
   lines-refused (stops {stop = stop} so_far number first refuses) empty =
       let all = reads-are (so_far.onward (refused stop.why) (refused_line first refuses)) in
-      (ap (λ (p : Plan). refusal-of p stop.why) empty.0 ∙ ap (handed unplaced_plan started) (sym all), empty.1)
+      (ap (λ (p : Plan). refusal-of p stop.why) empty ∙ ap (handed unplaced_plan started) (sym all), subst Valid (sym empty) (is_unplaced [] listed-none))
 
   -- The line where it stopped is the first refused one,
   lines-stop : {stop : RefusedLine} {plan : Plan} → LinesReads text (Err stop) plan → StopTold text (Some stop)

@@ -9,7 +9,7 @@ pub enter_read-requires : goal.enter_read-requires
 enter_read-requires c =
     let place_is : PlaceIs (some c.args.x) (some c.args.y) c.place_at-site_place.result =
     place_read_lem _ _ c.coordinate_at.ensures c.coordinate_at-2.ensures c.place_at-site_place.ensures in
-    (c.requires, name_fits c.args.name.now c.name_from-site_name.ensures, place_is.fits)
+    (name_fits c.args.name.now c.name_from-site_name.ensures, place_is.fits)
 
 pub returns : goal.returns
 returns c =
@@ -21,6 +21,5 @@ returns c =
     c.name_from-site_name.ensures place_is)) in
     record {
       answer = told.0;
-      valid = told.1.0;
       told = told.1.1;
     }

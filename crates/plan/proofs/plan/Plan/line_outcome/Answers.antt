@@ -7,4 +7,4 @@ returns-then-not-line c =
 
 pub returns : goal.returns
 returns c =
-    rw c.if-not-line.false c.enter_outcome.ensures
+    rw c.if-not-line.false c.enter_outcome.ensures.outcome

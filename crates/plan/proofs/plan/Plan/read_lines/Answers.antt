@@ -3,7 +3,8 @@
 -- Assumes nothing.
 use mathlib.Core.Path.{refl}
 use native.Mathlib.Omega.{arith}
-use Rattle.plan.specs.code.Reading.{ends, reading-starts, reading-valid, reading-few, reading-missing, reading-refused, reading-room, reading-on}
+use Rattle.plan.specs.code.Reading.{ends, reading-starts, reading-valid, reading-few, reading-missing, reading-refused, reading-listed, reading-on}
+use Rattle.plan.specs.theorems.Plan.{valid-holding}
 use Rattle.plan.proofs.plan.Plan.read_lines.Goals as goal
 
 pub loop-at-init : goal.loop-at-init
@@ -12,23 +13,25 @@ loop-at-init c =
 
 pub overflow_add-number : goal.overflow_add-number
 overflow_add-number c =
-    omega (arith, reading-few c.loop-at.invariant)
+    omega (arith, reading-few c.loop-at.invariant, (valid-holding (reading-valid c.loop-at.invariant)).count, c.count-number.ensures.answer)
 
 pub returns-in_default : goal.returns-in_default
 returns-in_default c =
-    reading-missing c.loop-at.invariant c.loop-at-test.true c.in_default.ensures
+    reading-missing c.loop-at.invariant c.count-number.ensures.answer c.loop-at-test.true c.in_default.ensures
 
 pub line_outcome-requires : goal.line_outcome-requires
 line_outcome-requires c =
-    (reading-valid c.loop-at.invariant, c.read_line-line.ensures.fits)
+    c.read_line-line.ensures.fits
 
 pub returns-in-Err : goal.returns-in-Err
 returns-in-Err c =
-    reading-refused c.loop-at.invariant c.in-At.ensures c.read_line-line.ensures c.in-Err.ensures refl
+    reading-refused c.loop-at.invariant c.in-At.ensures c.read_line-line.ensures c.in-Err.ensures refl c.count-number.ensures.answer
 
 pub add-requires : goal.add-requires
-add-requires c =
-    reading-room c.loop-at.invariant c.in-At.ensures c.read_line-line.ensures c.in_default-line_outcome.ensures refl
+add-requires c = (
+  c.read_line-line.ensures.fits.padded,
+  reading-listed c.loop-at.invariant c.in-At.ensures c.read_line-line.ensures c.in_default-line_outcome.ensures refl,
+)
 
 pub loop-at-preserved : goal.loop-at-preserved
 loop-at-preserved c =

@@ -1,7 +1,7 @@
 -- What the page of demands promises of the bytes of a sheet, and so of an output: the theorems that rest on what each way guarantees, demand 3
 -- and what stands for it above the spot. They stand here and not in specs/, so that a wrong guarantee is refused where it is not met.
 -- Assumes nothing.
-use Rattle.std.specs.Prelude.{true, ◌≡◌, refl, List, ℕ, ◌*◌, ◌≤◌, ◌<◌, length, drop}
+use Rattle.std.specs.Prelude.{true, ◌≡◌, refl, List, ℕ, ◌*◌, ◌≤◌, ◌<◌, length, drop, Ok}
 use Rattle.std.proofs.Common.{sym, ap, ◌∙◌, subst, arith}
 use Rattle.std.proofs.Math.Option.{some}
 use Rattle.placing.specs.declared.units.Side.{Side}
@@ -28,7 +28,6 @@ use Rattle.std.proofs.Math.ListN.{take}
 use Rattle.std.proofs.Math.Seq.{take_at}
 use borrow.Author.Tests.{le-ltb}
 use Rattle.plan.specs.declared.plan.Plan.{Plan}
-use Rattle.plan.specs.declared.plan.Written.TheVariants.{Bytes}
 use Rattle.plan.specs.theorems.Plan.{valid-holding, valid-for}
 use Rattle.plan.specs.theorems.Output.{ToPlace, not_placed, to_be_placed, text-to-place, prints-found, ToPlaceAt, not_placed_at, is_placed_at, text-to-place-at}
 use Rattle.plan.specs.code.Put.{Put}
@@ -141,7 +140,7 @@ module _ {plan : Plan} (valid : Valid plan) (is : plan.placed ≡ true) {buffer 
   -- The sheet was made in an array of its own, and its bytes are copied.
   pub write-copied : {scratch made after : List ℕ} {n m : ℕ} → Put scratch 0 (sheet_for plan) n made
       → length (sheet_for plan) ≤ length scratch → n ≤ length buffer → Put buffer 0 (take n made) m after
-      → WritePromised plan buffer (Bytes n) after
+      → WritePromised plan buffer (Ok n) after
   unfolding sites_in sheet_at chosen_at
   write-copied {after = after} {n} put fits room copy =
       let sheet = sheet_for plan in

@@ -1,7 +1,7 @@
 -- What demand 3, and what stands for it above the spot, means in the picture: the theorems that take it as a hypothesis. They stand here and not
 -- in specs/, as those of `Guaranteed` do.
 -- Assumes nothing.
-use Rattle.std.specs.Prelude.{◌≡◌, List, ℕ, ◌*◌, ◌≤◌, ◌<◌, length, take}
+use Rattle.std.specs.Prelude.{◌≡◌, List, ℕ, ◌*◌, ◌≤◌, ◌<◌, length, take, Ok}
 use Rattle.std.proofs.Common.{◌∙◌, ap, subst, arith}
 use Rattle.std.proofs.Math.Option.{some}
 use Rattle.placing.specs.declared.units.Place.{Place}
@@ -14,7 +14,6 @@ use Rattle.placing.specs.rules.Answer.{Answer, numbered, side_number, IsAnswer}
 use Rattle.placing.specs.theorems.Answer.{answer-unique}
 use Rattle.plan.specs.rules.List.{Site, Listed, places_of}
 use Rattle.plan.specs.rules.Sheet.{number_on, spots_on}
-use Rattle.plan.specs.declared.plan.Written.TheVariants.{Bytes}
 use Rattle.plan.specs.Demands.{NoRival, NoRivalAbove, Guarantee, RightSheet, PrintsFound, PlacedSheet, SheetWritten}
 use Rattle.plan.specs.theorems.Rivals.{CommonPoint, meeting-common, Rival}
 
@@ -59,7 +58,7 @@ placed-common listed placed prints = right-common listed (placed.right_at_found 
 
 -- What an accepted writing leaves in the buffer is such a sheet.
 pub written-common : {way : Way} {sites : List Site} {side : Side} (n : ℕ) (buffer : List ℕ) → Listed sites
-    → SheetWritten way sites side (Bytes n) buffer → PrintsFound way (take n buffer) → {h : ℕ} {cs : List ℕ}
+    → SheetWritten way sites side (Ok n) buffer → PrintsFound way (take n buffer) → {h : ℕ} {cs : List ℕ}
     → IsAnswer way (places_of sites) (numbered h cs) → (p q : ℕ) → 1 ≤ q → (corners : List ℕ)
     → Rival way h p q (length (places_of sites)) corners → CommonPoint p q (places_of sites) corners
 written-common n buffer listed written prints = placed-common listed written prints

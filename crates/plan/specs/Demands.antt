@@ -1,6 +1,6 @@
 -- The three demands: the whole claim, on one page. The contract of every call that can refuse, or writes, cites its part of it.
 -- Assumes nothing.
-use Rattle.std.specs.Prelude.{◌≡◌, true, false, List, [], ◌++◌, ◌⊎◌, ℕ, ◌+◌, ◌*◌, ◌≤◌, ◌<◌, length, take, drop}
+use Rattle.std.specs.Prelude.{◌≡◌, true, false, List, [], ◌++◌, ◌⊎◌, ℕ, ◌+◌, ◌*◌, ◌≤◌, ◌<◌, length, take, drop, Option, Some, None, Ok, Err}
 use Rattle.std.proofs.Math.Option.{some}
 use Rattle.placing.specs.declared.units.Side.{Side}
 use Rattle.placing.specs.declared.units.Side.TheVariants.{Free}
@@ -9,21 +9,15 @@ use Rattle.placing.specs.declared.way.Way.TheVariants.{Usual, Above}
 use Rattle.placing.specs.rules.Choice.{Corners, UpperCorners, MeetingPair, SomeGood}
 use Rattle.placing.specs.rules.Answer.{Answer, is_side, judged_at, side_number, IsAnswer, IsChosen}
 use Rattle.plan.specs.declared.list.RefusedLine.{RefusedLine}
-use Rattle.plan.specs.declared.list.Stop.{Stop}
-use Rattle.plan.specs.declared.list.Stop.TheVariants.{AtLine, Nowhere}
-use Rattle.plan.specs.declared.plan.AskedCorner.{AskedCorner}
-use Rattle.plan.specs.declared.plan.AskedSide.{AskedSide}
 use Rattle.plan.specs.declared.plan.Plan.{Plan}
 use Rattle.plan.specs.declared.plan.Planned.{Planned}
-use Rattle.plan.specs.declared.plan.Written.{Written}
-use Rattle.plan.specs.declared.plan.Written.TheVariants.{Bytes, NotWritten}
 use Rattle.plan.specs.rules.Refusal.{number_of, number_by, accepted}
 use Rattle.plan.specs.rules.List.{Site, places_of, list_text, enter_tests, wanted_at, TextLine, FirstLine, line_tests, Reads}
 use Rattle.plan.specs.rules.Sheet.{sheet_with, side_on, number_on, spots_on, carried, refusal_line}
 use Rattle.plan.specs.deciding.Output.{output_of, exists_at, output_at}
 use Rattle.plan.specs.rules.Calls.{finding_tests, choosing_tests, cleared, side_tests, corner_tests, write_tests}
 use Rattle.plan.specs.calls.Plan.{unplaced_plan, placed_with, placed_plan, sites_in}
-use Rattle.plan.specs.calls.Answers.{outcome_number, side_asked_number, corner_asked_number, written_number, sheet_for, started}
+use Rattle.plan.specs.calls.Answers.{outcome_number, side_asked_number, corner_asked_number, written_number, sheet_for, started, AskedCorner, AskedSide, Written}
 
 -- ---- demand 1: bad input is refused first, by its number, with plan and lent buffers as they were; all else ends in an answer
 
@@ -97,9 +91,9 @@ pub record StopsAt (text : List ℕ) (stop : RefusedLine) : Type 0 where
   pub starts : drop stop.at text ≡ first.rest
 
 -- .. or nowhere, where every line is accepted.
-pub data StopTold (text : List ℕ) : Stop → Type 0 where
-  at_a_line : {stop : RefusedLine} → StopsAt text stop → StopTold text (AtLine stop)
-  at_no_line : {sites : List Site} → Reads [] text (accepted sites) → StopTold text Nowhere
+pub data StopTold (text : List ℕ) : Option RefusedLine → Type 0 where
+  at_a_line : {stop : RefusedLine} → StopsAt text stop → StopTold text (Some stop)
+  at_no_line : {sites : List Site} → Reads [] text (accepted sites) → StopTold text None
 
 -- A list that is accepted and has some sites.
 pub record Accepts (text : List ℕ) (sites : List Site) : Type 0 where
@@ -205,8 +199,8 @@ pub record PlacedSheet (way : Way) (sites : List Site) (side : Side) (sheet : Li
 
 -- "The sheet is what an accepted writing leaves in the buffer, from its first byte up to the length it gives."
 abbrev pub SheetWritten : Way → List Site → Side → Written → List ℕ → Type 0
-SheetWritten way sites side (Bytes n) buffer = PlacedSheet way sites side (take n buffer)
-SheetWritten way sites side (NotWritten why) buffer = Unit {0}
+SheetWritten way sites side (Ok n) buffer = PlacedSheet way sites side (take n buffer)
+SheetWritten way sites side (Err why) buffer = Unit {0}
 
 -- ---- from a list to its output, by a way of placing: all three, with what stands for the third above the spot
 

@@ -16,8 +16,8 @@ ghost use Rattle.plan.specs.Demands.{EnterTold, FindTold, ChooseTold, SideTold, 
 
 use crate::name::name_from;
 use crate::number::{coordinate_at, place_at};
-use crate::plan::{AskedCorner, AskedSide, Plan, Planned, enter_read, refuse};
-use crate::refusal::{Outcome, Refusal};
+use crate::plan::{Plan, Planned, enter_read, refuse};
+use crate::refusal::Refusal;
 use placing::place::{choose_corners, find_side};
 use placing::units::{Limits, Side};
 use placing::way::Way;
@@ -35,21 +35,21 @@ pub fn enter(plan: Plan, name: &[u8], x: u64, y: u64) -> Planned
 }
 
 // What keeps `n` sites from being placed with a work table of so many bytes: tests 8, 11.
-fn unready(n: usize, bytes: usize) -> Outcome
+fn unready(n: usize, bytes: usize) -> Result<(), Refusal>
     requires { n ≤ most_sites }
     ensures { result ≡ outcome_of (first_refusal (finding_tests n bytes)) }
 {
     if n == 0 {
-        return Outcome::Refused(Refusal::NoSites);
+        return Err(Refusal::NoSites);
     }
     if bytes < n * n {
-        return Outcome::Refused(Refusal::ShortTable);
+        return Err(Refusal::ShortTable);
     }
-    Outcome::Done
+    Ok(())
 }
 
 // Finds the greatest side of the plan's sites by a way: tests 8, 11. The plan stays with the caller, as it was.
-pub fn find(plan: Plan, way: Way, table: &mut [u8]) -> AskedSide
+pub fn find(plan: Plan, way: Way, table: &mut [u8]) -> Result<Side, Refusal>
     requires { Valid plan }
     ensures answer { result ≡ found_in plan way table.old }
     ensures table { table.new ≡ table_found plan table.old }
@@ -59,11 +59,11 @@ pub fn find(plan: Plan, way: Way, table: &mut [u8]) -> AskedSide
 {
     let n = plan.count;
     let failed = unready(n, table.len());
-    if let Outcome::Refused(why) = failed {
-        return AskedSide::NoSide(why);
+    if let Err(why) = failed {
+        return Err(why);
     }
     let places = plan.places;
-    AskedSide::SideIs(find_side(places, n, way, table))
+    Ok(find_side(places, n, way, table))
 }
 
 // Whether a side can be given: a number from 1 to 20,000, or free.
@@ -94,7 +94,7 @@ pub fn choose_at(plan: Plan, way: Way, side: Side, table: &mut [u8]) -> Planned
     }
     let n = plan.count;
     let failed = unready(n, table.len());
-    if let Outcome::Refused(why) = failed {
+    if let Err(why) = failed {
         return refuse(plan, why);
     }
     let places = plan.places;
@@ -104,27 +104,27 @@ pub fn choose_at(plan: Plan, way: Way, side: Side, table: &mut [u8]) -> Planned
     }
     let corners = choice.corners;
     Planned {
-        outcome: Outcome::Done,
+        outcome: Ok(()),
         plan: Plan::placed_at(plan, way, side, corners),
     }
 }
 
 // The side that the plan is placed at: test 9.
-pub fn side(plan: Plan) -> AskedSide
+pub fn side(plan: Plan) -> Result<Side, Refusal>
     requires { Valid plan }
     ensures answer { result ≡ side_asked plan }
     ensures told { SideTold plan result }
     ensures value { side_carried result ≡ carried_at (number_by (side_tests plan.placed)) (side_number (answer_for plan).side) }
 {
     if !plan.placed {
-        return AskedSide::NoSide(Refusal::NotPlaced);
+        return Err(Refusal::NotPlaced);
     }
     let side = plan.side;
-    AskedSide::SideIs(side)
+    Ok(side)
 }
 
 // The corner of site number `i`: tests 9, 6.
-pub fn corner(plan: Plan, i: usize) -> AskedCorner
+pub fn corner(plan: Plan, i: usize) -> Result<u8, Refusal>
     requires { Valid plan }
     ensures answer { result ≡ corner_asked plan i }
     ensures told { CornerTold plan i result }
@@ -132,13 +132,13 @@ pub fn corner(plan: Plan, i: usize) -> AskedCorner
         ≡ carried_at (number_by (corner_tests plan.placed plan.count i)) (corner_at (answer_for plan).corners i) }
 {
     if !plan.placed {
-        return AskedCorner::NoCorner(Refusal::NotPlaced);
+        return Err(Refusal::NotPlaced);
     }
     if i >= plan.count {
-        return AskedCorner::NoCorner(Refusal::NoSuchSite);
+        return Err(Refusal::NoSuchSite);
     }
     let corners = plan.corners;
-    AskedCorner::CornerIs(corners[i])
+    Ok(corners[i])
 }
 
 // How many sites the plan has.

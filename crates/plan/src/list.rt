@@ -13,7 +13,7 @@ use crate::limits::TextLimits;
 use crate::name::{NameRead, name_from};
 use crate::number::{Coordinate, PlaceRead, coordinate_from, place_at};
 use crate::plan::{Plan, Planned, enter_outcome, refuse};
-use crate::refusal::{Outcome, Refusal};
+use crate::refusal::Refusal;
 
 // Where a line ends: the place of its line feed, if it has one in time.
 #[derive(Clone, Copy)]
@@ -34,7 +34,7 @@ pub(crate) struct LineRead {
 // the text's end.
 #[derive(Clone, Copy)]
 pub(crate) struct LinesRead {
-    pub outcome: Outcome,
+    pub outcome: Result<(), Refusal>,
     pub plan: Plan,
     pub at: usize,
 }
@@ -45,13 +45,6 @@ pub struct RefusedLine {
     pub number: usize,
     pub at: usize,
     pub why: Refusal,
-}
-
-// Where reading a list stops: at a line that is refused, or nowhere, since every line is accepted.
-#[derive(Clone, Copy)]
-pub enum Stop {
-    AtLine(RefusedLine),
-    Nowhere,
 }
 
 // The end of the line that starts at `at`: a line feed behind at most the bytes of a line.
@@ -132,12 +125,12 @@ fn read_line(line: &[u8]) -> LineRead
 }
 
 // What the tests of entering a line come to: 1 for its fields, then theirs.
-fn line_outcome(plan: Plan, line: LineRead) -> Outcome
+fn line_outcome(plan: Plan, line: LineRead) -> Result<(), Refusal>
     requires { Valid plan × NameFits line.name }
     ensures { result ≡ outcome_of (first_refusal (read_tests (sites_in plan) line)) }
 {
     if !line.three {
-        return Outcome::Refused(Refusal::BadLine);
+        return Err(Refusal::BadLine);
     }
     let name = line.name;
     let place = line.place;
@@ -146,9 +139,9 @@ fn line_outcome(plan: Plan, line: LineRead) -> Outcome
 
 // Reading stops at the line that starts at `at`.
 fn stopped(plan: Plan, at: usize, why: Refusal) -> LinesRead
-    ensures { result ≡ record { outcome = Outcome.Refused why; plan = plan; at = at } }
+    ensures { result ≡ record { outcome = Err why; plan = plan; at = at } }
 {
-    let outcome = Outcome::Refused(why);
+    let outcome = Err(why);
     LinesRead { outcome, plan, at }
 }
 
@@ -164,7 +157,7 @@ fn read_lines(text: &[u8]) -> LinesRead
         };
         let line = read_line(&text[at..end]);
         let outcome = line_outcome(plan, line);
-        if let Outcome::Refused(why) = outcome {
+        if let Err(why) = outcome {
             return stopped(plan, at, why);
         }
         let n = plan.count;
@@ -176,7 +169,7 @@ fn read_lines(text: &[u8]) -> LinesRead
         at = end + 1;
     }
     LinesRead {
-        outcome: Outcome::Done,
+        outcome: Ok(()),
         plan,
         at,
     }
@@ -190,27 +183,27 @@ pub fn read(text: &[u8]) -> Planned
 {
     let lines = read_lines(text);
     let outcome = lines.outcome;
-    if let Outcome::Refused(why) = outcome {
+    if let Err(why) = outcome {
         return refuse(Plan::start(), why);
     }
     let plan = lines.plan;
     Planned {
-        outcome: Outcome::Done,
+        outcome: Ok(()),
         plan,
     }
 }
 
 // The line at which `read` stops, if it stops at one.
-pub fn refused_line(text: &[u8]) -> Stop
+pub fn refused_line(text: &[u8]) -> Option<RefusedLine>
     ensures { StopTold text.now result }
 {
     let lines = read_lines(text);
     let outcome = lines.outcome;
-    let Outcome::Refused(why) = outcome else {
-        return Stop::Nowhere;
+    let Err(why) = outcome else {
+        return None;
     };
     let before = lines.plan;
-    Stop::AtLine(RefusedLine {
+    Some(RefusedLine {
         number: before.count + 1,
         at: lines.at,
         why,

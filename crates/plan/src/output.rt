@@ -14,9 +14,9 @@ ghost use Rattle.plan.specs.Demands.{ListTold, ListToldAt, Answered, AnsweredAt}
 use crate::calls::{choose_at, find, is_side};
 use crate::limits::TextLimits;
 use crate::list::read;
-use crate::plan::{AskedSide, Plan, Planned, refuse};
+use crate::plan::{Plan, Planned, refuse};
 use crate::put::{put_byte, put_bytes, put_decimal};
-use crate::refusal::{Outcome, Refusal, number_of};
+use crate::refusal::Refusal;
 use crate::sheet::compose;
 use placing::units::Side;
 use placing::way::Way;
@@ -26,7 +26,7 @@ fn put_refusal(out: &mut [u8], why: Refusal) -> usize
     requires { longest_refusal_line ≤ length out.old }
     ensures { Put out.old 0 (refusal_line (number_of why)) result out.new }
 {
-    let number = number_of(why);
+    let number = u8::from(why);
     let word = put_bytes(out, 0, b"refused\t", 8);
     let digits = put_decimal(out, word, number as u32);
     put_byte(out, digits, b'\n')
@@ -38,7 +38,7 @@ fn put_planned(planned: Planned, out: &mut [u8]) -> usize
     ensures { Put out.old 0 (planned_output planned) result out.new }
 {
     let outcome = planned.outcome;
-    if let Outcome::Refused(why) = outcome {
+    if let Err(why) = outcome {
         return put_refusal(out, why);
     }
     let plan = planned.plan;
@@ -54,15 +54,15 @@ pub fn place_list(text: &[u8], way: Way) -> Planned
 {
     let listed = read(text);
     let reading = listed.outcome;
-    if let Outcome::Refused(_) = reading {
+    if let Err(_) = reading {
         return listed;
     }
     let mut table = [0u8; TextLimits::TABLE];
     let level = listed.plan;
     let found = find(level, way, &mut table);
     match found {
-        AskedSide::SideIs(side) => choose_at(level, way, side, &mut table),
-        AskedSide::NoSide(why) => refuse(level, why),
+        Ok(side) => choose_at(level, way, side, &mut table),
+        Err(why) => refuse(level, why),
     }
 }
 
@@ -77,14 +77,14 @@ pub fn place_list_at(text: &[u8], way: Way, side: Side) -> Planned
     }
     let listed = read(text);
     let outcome = listed.outcome;
-    if let Outcome::Refused(_) = outcome {
+    if let Err(_) = outcome {
         return listed;
     }
     let mut work_table = [0u8; TextLimits::TABLE];
     let level = listed.plan;
     let placed = choose_at(level, way, side, &mut work_table);
     let choosing = placed.outcome;
-    if let Outcome::Refused(why) = choosing {
+    if let Err(why) = choosing {
         return refuse(Plan::start(), why);
     }
     placed

@@ -13,7 +13,7 @@ ghost use Rattle.plan.specs.code.Entering.{NameFits, PlaceFits, wanted_read, out
 
 use crate::name::{Name, NameRead, same_name};
 use crate::number::PlaceRead;
-use crate::refusal::{Outcome, Refusal};
+use crate::refusal::Refusal;
 use placing::units::{Limits, Place, Side, Units};
 use placing::way::Way;
 
@@ -33,29 +33,8 @@ pub struct Plan {
 // What entering, reading and choosing hand back: the answer, and the plan afterwards.
 #[derive(Clone, Copy)]
 pub struct Planned {
-    pub outcome: Outcome,
+    pub outcome: Result<(), Refusal>,
     pub plan: Plan,
-}
-
-// The answer when the side is asked or found.
-#[derive(Clone, Copy)]
-pub enum AskedSide {
-    SideIs(Side),
-    NoSide(Refusal),
-}
-
-// The answer when a corner is asked.
-#[derive(Clone, Copy)]
-pub enum AskedCorner {
-    CornerIs(u8),
-    NoCorner(Refusal),
-}
-
-// The answer of writing: how many bytes were written.
-#[derive(Clone, Copy)]
-pub enum Written {
-    Bytes(usize),
-    NotWritten(Refusal),
 }
 
 impl Plan {
@@ -107,9 +86,9 @@ impl Plan {
 
 // A refusal, with the plan as it came.
 pub(crate) fn refuse(plan: Plan, why: Refusal) -> Planned
-    ensures { result ≡ record { outcome = Outcome.Refused why; plan = plan } }
+    ensures { result ≡ record { outcome = Err why; plan = plan } }
 {
-    let outcome = Outcome::Refused(why);
+    let outcome = Err(why);
     Planned { outcome, plan }
 }
 
@@ -152,29 +131,35 @@ fn place_taken(places: [Place; Limits::SITES], n: usize, place: Place) -> bool
 }
 
 // The order of document 01's tests, 2, 3, 7, 4, 5, over which of them fail.
-fn first_failed(unnamed: bool, outside: bool, full: bool, named: bool, placed: bool) -> Outcome
+fn first_failed(
+    unnamed: bool,
+    outside: bool,
+    full: bool,
+    named: bool,
+    placed: bool,
+) -> Result<(), Refusal>
     ensures { result ≡ outcome_of (first_refusal (rows unnamed outside full named placed)) }
 {
     if unnamed {
-        return Outcome::Refused(Refusal::BadName);
+        return Err(Refusal::BadName);
     }
     if outside {
-        return Outcome::Refused(Refusal::BadNumber);
+        return Err(Refusal::BadNumber);
     }
     if full {
-        return Outcome::Refused(Refusal::Full);
+        return Err(Refusal::Full);
     }
     if named {
-        return Outcome::Refused(Refusal::NameTaken);
+        return Err(Refusal::NameTaken);
     }
     if placed {
-        return Outcome::Refused(Refusal::PlaceTaken);
+        return Err(Refusal::PlaceTaken);
     }
-    Outcome::Done
+    Ok(())
 }
 
 // What the tests of entering a name and a place, as they were read, come to.
-pub(crate) fn enter_outcome(plan: Plan, name: NameRead, place: PlaceRead) -> Outcome
+pub(crate) fn enter_outcome(plan: Plan, name: NameRead, place: PlaceRead) -> Result<(), Refusal>
     requires { Valid plan × NameFits name }
     ensures { result ≡ outcome_of (first_refusal (enter_tests (sites_in plan) (wanted_read name place))) }
 {
@@ -193,7 +178,7 @@ pub(crate) fn enter_read(plan: Plan, name: NameRead, place: PlaceRead) -> Planne
     ensures valid { Valid result.plan }
 {
     let outcome = enter_outcome(plan, name, place);
-    if let Outcome::Refused(why) = outcome {
+    if let Err(why) = outcome {
         return refuse(plan, why);
     }
     let n = plan.count;
@@ -205,7 +190,7 @@ pub(crate) fn enter_read(plan: Plan, name: NameRead, place: PlaceRead) -> Planne
     places[n] = spot;
     let more = Plan::unplaced(n + 1, names, places);
     Planned {
-        outcome: Outcome::Done,
+        outcome: Ok(()),
         plan: more,
     }
 }

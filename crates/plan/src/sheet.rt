@@ -15,7 +15,7 @@ ghost use Rattle.plan.specs.Demands.{SheetWritten, WriteTold};
 
 use crate::limits::TextLimits;
 use crate::name::Name;
-use crate::plan::{Plan, Written};
+use crate::plan::Plan;
 use crate::put::{put_byte, put_bytes, put_decimal, put_name};
 use crate::refusal::Refusal;
 use placing::units::{Place, Side};
@@ -73,7 +73,7 @@ pub(crate) fn compose(plan: Plan, out: &mut [u8]) -> usize
 }
 
 // Writes the sheet into the buffer: tests 9, 10.
-pub fn write(plan: Plan, buffer: &mut [u8]) -> Written
+pub fn write(plan: Plan, buffer: &mut [u8]) -> Result<usize, Refusal>
     requires { Valid plan }
     ensures answer { result ≡ written_in plan buffer.old }
     ensures buffer { buffer.new ≡ buffer_after plan buffer.old }
@@ -83,13 +83,13 @@ pub fn write(plan: Plan, buffer: &mut [u8]) -> Written
         ≡ carried_at (number_by (write_tests plan.placed (sheet_for plan) buffer.old)) (length (sheet_for plan)) }
 {
     if !plan.placed {
-        return Written::NotWritten(Refusal::NotPlaced);
+        return Err(Refusal::NotPlaced);
     }
     let mut sheet = [0u8; TextLimits::SHEET];
     let n = compose(plan, &mut sheet);
     if buffer.len() < n {
-        return Written::NotWritten(Refusal::ShortBuffer);
+        return Err(Refusal::ShortBuffer);
     }
     put_bytes(buffer, 0, &sheet, n);
-    Written::Bytes(n)
+    Ok(n)
 }

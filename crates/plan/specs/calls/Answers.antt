@@ -1,21 +1,15 @@
 -- Document 01, "Calls on a plan": what each call hands back for every plan, refused or not, as the code's records and enums.
 -- Assumes nothing.
-use Rattle.std.specs.Prelude.{true, false, List, [], ℕ, eqb, length}
+use Rattle.std.specs.Prelude.{true, false, List, [], ℕ, eqb, length, Ok, Err}
+use Rattle.std.specs.Prelude as rattle
 use Rattle.std.proofs.Math.Option.{Option, some, none}
 use Rattle.placing.specs.declared.units.Side.{Side}
 use Rattle.placing.specs.declared.way.Way.{Way}
 use Rattle.placing.specs.rules.Answer.{Answer, side_number}
 use Rattle.placing.specs.deciding.Answer.{answer_of, chosen_at}
-use Rattle.plan.specs.declared.refusal.Outcome.{Outcome}
-use Rattle.plan.specs.declared.refusal.Outcome.TheVariants.{Done, Refused}
+use Rattle.plan.specs.declared.refusal.Refusal.{Refusal}
 use Rattle.plan.specs.declared.plan.Plan.{Plan}
 use Rattle.plan.specs.declared.plan.Planned.{Planned}
-use Rattle.plan.specs.declared.plan.AskedSide.{AskedSide}
-use Rattle.plan.specs.declared.plan.AskedSide.TheVariants.{SideIs, NoSide}
-use Rattle.plan.specs.declared.plan.AskedCorner.{AskedCorner}
-use Rattle.plan.specs.declared.plan.AskedCorner.TheVariants.{CornerIs, NoCorner}
-use Rattle.plan.specs.declared.plan.Written.{Written}
-use Rattle.plan.specs.declared.plan.Written.TheVariants.{Bytes, NotWritten}
 use Rattle.plan.specs.rules.Refusal.{number_of, Result, accepted, refused, after_tests}
 use Rattle.plan.specs.rules.List.{Site, places_of, entered, wanted_at}
 use Rattle.plan.specs.deciding.Output.{sheet_at, exists_at}
@@ -23,39 +17,54 @@ use Rattle.plan.specs.rules.Calls.{finding_tests, choosing_tests, before_choice,
 use Rattle.plan.specs.deciding.Reading.{read_list}
 use Rattle.plan.specs.calls.Plan.{unplaced_plan, placed_with, placed_plan, sites_in}
 
--- ---- the answers that are enums: for each case the number of documents 01 and 02, 0 where the call is accepted, and the value it carries
+-- ---- the answers: a value, or why the call is refused
+
+-- Entering, reading and choosing answer no value, finding and asking a side or a corner, writing the length of the sheet.
+abbrev pub Outcome : Type 0
+Outcome = rattle.Result (Unit {0}) Refusal
+
+abbrev pub AskedSide : Type 0
+AskedSide = rattle.Result Side Refusal
+
+abbrev pub AskedCorner : Type 0
+AskedCorner = rattle.Result ℕ Refusal
+
+abbrev pub Written : Type 0
+Written = rattle.Result ℕ Refusal
+
+-- ---- for each case the number of documents 01 and 02, 0 where the call is accepted, and the value it carries
 
 -- Entering, reading and choosing carry no value beside the plan.
 abbrev pub outcome_number : Outcome → ℕ
-outcome_number Done = 0
-outcome_number (Refused why) = number_of why
+outcome_number (Ok done) = 0
+outcome_number (Err why) = number_of why
 
 -- The number of the answer when the side is asked, and what it carries: the number of its side, or free.
 abbrev pub side_asked_number : AskedSide → ℕ
-side_asked_number (SideIs side) = 0
-side_asked_number (NoSide why) = number_of why
+side_asked_number (Ok side) = 0
+side_asked_number (Err why) = number_of why
 
 abbrev pub side_carried : AskedSide → Option (Option ℕ)
-side_carried (SideIs side) = some (side_number side)
-side_carried (NoSide why) = none
+side_carried (Ok side) = some (side_number side)
+side_carried (Err why) = none
 
 -- The number of the answer when a corner is asked, and the corner it carries.
 abbrev pub corner_asked_number : AskedCorner → ℕ
-corner_asked_number (CornerIs corner) = 0
-corner_asked_number (NoCorner why) = number_of why
+corner_asked_number (Ok corner) = 0
+corner_asked_number (Err why) = number_of why
 
 abbrev pub corner_carried : AskedCorner → Option ℕ
-corner_carried (CornerIs corner) = some corner
-corner_carried (NoCorner why) = none
+corner_carried (Ok corner) = some corner
+corner_carried (Err why) = none
 
 -- The number of the answer of writing, and the length it carries.
 abbrev pub written_number : Written → ℕ
-written_number (Bytes n) = 0
-written_number (NotWritten why) = number_of why
+written_number (Ok n) = 0
+written_number (Err why) = number_of why
 
 abbrev pub written_length : Written → Option ℕ
-written_length (Bytes n) = some n
-written_length (NotWritten why) = none
+written_length (Ok n) = some n
+written_length (Err why) = none
 
 -- A value is carried exactly where the number is 0.
 abbrev pub carried_at : {A : Type 0} → (number : ℕ) → A → Option A
@@ -69,8 +78,8 @@ started = unplaced_plan []
 
 -- The plan that a call's value makes where it is accepted, and where it is refused another one.
 abbrev pub handed : {A : Type 0} → (A → Plan) → Plan → Result A → Planned
-handed plan-of other (accepted value) = record { outcome = Done; plan = plan-of value }
-handed plan-of other (refused why) = record { outcome = Refused why; plan = other }
+handed plan-of other (accepted value) = record { outcome = Ok tt; plan = plan-of value }
+handed plan-of other (refused why) = record { outcome = Err why; plan = other }
 
 -- "Entering makes the plan unplaced"; refused, it hands back the plan as it came.
 abbrev pub entered_in : Plan → List ℕ → ℕ → ℕ → Planned
@@ -82,8 +91,8 @@ read_from text = handed unplaced_plan started (read_list text)
 
 -- A side that is asked or found.
 abbrev pub side_answer : Result Side → AskedSide
-side_answer (accepted side) = SideIs side
-side_answer (refused why) = NoSide why
+side_answer (accepted side) = Ok side
+side_answer (refused why) = Err why
 
 -- Finding the side by a way, and the table afterwards, which looks at the tests alone: it is the same by either way. L1: "Finding leaves the
 -- plan as it was": it hands back none.
@@ -123,8 +132,8 @@ side_asked plan = side_answer (side_given plan.placed (answer_for plan))
 
 -- Asking a corner.
 abbrev pub corner_answer : Result ℕ → AskedCorner
-corner_answer (accepted corner) = CornerIs corner
-corner_answer (refused why) = NoCorner why
+corner_answer (accepted corner) = Ok corner
+corner_answer (refused why) = Err why
 
 abbrev pub corner_asked : Plan → ℕ → AskedCorner
 corner_asked plan i = corner_answer (corner_given plan.placed plan.count (answer_for plan) i)
@@ -135,8 +144,8 @@ counted plan = length (sites_in plan)
 
 -- Writing; and the buffer afterwards.
 abbrev pub written_answer : Result ℕ → Written
-written_answer (accepted n) = Bytes n
-written_answer (refused why) = NotWritten why
+written_answer (accepted n) = Ok n
+written_answer (refused why) = Err why
 
 abbrev pub length_written : Plan → List ℕ → Result ℕ
 length_written plan buffer = length_given plan.placed (sheet_for plan) buffer

@@ -1,6 +1,6 @@
 -- The answers of the calls, test by test.
 -- Assumes nothing.
-use Rattle.std.specs.Prelude.{◌≡◌, refl, true, false, List, [], ◌∷◌, ℕ, ◌≤◌, ◌<◌, length, get_or}
+use Rattle.std.specs.Prelude.{◌≡◌, refl, true, false, List, [], ◌∷◌, ℕ, ◌≤◌, ◌<◌, length, get_or, Ok, Err}
 use Rattle.std.proofs.Common.{sym, ap, ◌∙◌, subst, arith}
 use Rattle.std.proofs.Math.Option.{Option, some, none}
 use borrow.Author.Tests.{le-leb, lt-leb}
@@ -9,14 +9,10 @@ use Rattle.placing.specs.declared.way.Way.{Way}
 use Rattle.placing.specs.rules.Answer.{is_side, side_number}
 use Rattle.placing.specs.deciding.Answer.{answer_of, chosen_at}
 use Rattle.placing.specs.theorems.Given.{chosen_is}
-use Rattle.plan.specs.declared.refusal.Outcome.TheVariants.{Done, Refused}
 use Rattle.plan.specs.declared.refusal.Refusal.{Refusal}
 use Rattle.plan.specs.declared.refusal.Refusal.TheVariants as why
 use Rattle.plan.specs.declared.plan.Plan.{Plan}
 use Rattle.plan.specs.declared.plan.Planned.{Planned}
-use Rattle.plan.specs.declared.plan.AskedSide.{AskedSide}
-use Rattle.plan.specs.declared.plan.AskedSide.TheVariants.{SideIs, NoSide}
-use Rattle.plan.specs.declared.plan.AskedCorner.TheVariants.{CornerIs, NoCorner}
 use Rattle.plan.specs.rules.Refusal.{first_refusal, number_by, Result, accepted, refused, unless}
 use Rattle.plan.specs.rules.List.{Site, places_of, Listed}
 use Rattle.plan.specs.rules.Calls.{finding_tests, choosing_tests, before_choice, no_good, cleared, bytes_after}
@@ -33,6 +29,7 @@ use Rattle.plan.specs.calls.Answers.{
   table_chosen,
   side_asked,
   corner_asked,
+  AskedSide,
 }
 use Rattle.plan.specs.Demands.{FindTold, ChooseTold}
 use Rattle.plan.specs.theorems.Tables.{first-early, first-late}
@@ -43,7 +40,7 @@ use Rattle.plan.specs.theorems.Calls.{find-told, choose-told}
 
 -- A refusal with this plan.
 abbrev pub refusal-of : Plan → Refusal → Planned
-refusal-of plan why = record { outcome = Refused why; plan = plan }
+refusal-of plan why = record { outcome = Err why; plan = plan }
 
 -- Refused, a call hands back the plan as it came.
 pub refuses : {plan : Plan} {why : Refusal} {r : Planned} {sites : Result (List Site)} → Valid plan → r ≡ refusal-of plan why
@@ -53,9 +50,9 @@ refuses {plan} {why} {r} {sites} valid is_refused why-refused =
 
 -- Accepted, it hands back the plan of the sites afterwards.
 pub accepts : (plan : Plan) {after : Plan} {sites : Result (List Site)} {more : List Site} → Listed more → after ≡ unplaced_plan more
-    → sites ≡ accepted more → (record { outcome = Done; plan = after } ≡ handed unplaced_plan plan sites) × Valid after
+    → sites ≡ accepted more → (record { outcome = Ok tt; plan = after } ≡ handed unplaced_plan plan sites) × Valid after
 accepts plan {after} {sites} {more} listed same is-accepted = (
-  ap {B = Planned} (λ (p : Plan). record { outcome = Done; plan = p }) same ∙ sym (ap (handed unplaced_plan plan) is-accepted),
+  ap {B = Planned} (λ (p : Plan). record { outcome = Ok tt; plan = p }) same ∙ sym (ap (handed unplaced_plan plan) is-accepted),
   subst Valid (sym same) (is_unplaced more listed),
 )
 
@@ -84,14 +81,14 @@ module _ (plan : Plan) (way : Way) (table : List ℕ) where
 
   -- Refused, finding changes nothing.
   pub find-refuses : {why : Refusal} → first_refusal (finding_tests plan.count (length table)) ≡ some why
-      → FindPromised plan way table (NoSide why) table
+      → FindPromised plan way table (Err why) table
   find-refuses {why} is = find-promised (some why) is refl refl
 
   -- Accepted, it tells the side and has cleared the table.
   pub find-accepts : {side : Side} {left : List ℕ} → first_refusal (finding_tests plan.count (length table)) ≡ none
       → side ≡ (answer_of way (places_of (sites_in plan))).side → left ≡ cleared plan.count table
-      → FindPromised plan way table (SideIs side) left
-  find-accepts is side-is left_is = find-promised none is (ap SideIs side-is) left_is
+      → FindPromised plan way table (Ok side) left
+  find-accepts is side-is left_is = find-promised none is (ap Ok side-is) left_is
 
 -- ---- choosing at a given side: tests 3, 8, 11, 12
 
@@ -143,7 +140,7 @@ module _ {plan : Plan} (valid : Valid plan) (way : Way) (side : Side) (table : L
 
     -- Accepted, it hands back the plan placed at the side.
     pub choose-accepts : exists_at way side (sites_in plan) ≡ true → is_side side ≡ true → 1 ≤ plan.count
-        → r ≡ record { outcome = Done; plan = placed_with (sites_in plan) way (chosen_at way side (places_of (sites_in plan))) }
+        → r ≡ record { outcome = Ok tt; plan = placed_with (sites_in plan) way (chosen_at way side (places_of (sites_in plan))) }
         → ChoosePromised plan way side table r left
     choose-accepts there given some_sites is =
         let holding = valid-holding valid in
@@ -155,24 +152,24 @@ module _ {plan : Plan} (valid : Valid plan) (way : Way) (side : Side) (table : L
 -- ---- asking: tests 9, 6
 
 -- A plan that is not placed has no side to tell;
-pub side-refused : (plan : Plan) → plan.placed ≡ false → NoSide why.NotPlaced ≡ side_asked plan
+pub side-refused : (plan : Plan) → plan.placed ≡ false → Err why.NotPlaced ≡ side_asked plan
 side-refused plan is = rw is
 
 -- one that is placed tells the side it holds.
-pub side-given : (plan : Plan) → plan.placed ≡ true → SideIs plan.side ≡ side_asked plan
+pub side-given : (plan : Plan) → plan.placed ≡ true → Ok plan.side ≡ side_asked plan
 unfolding chosen_at
 side-given plan is = rw is
 
 module _ (plan : Plan) (i : ℕ) where
   -- A plan that is not placed has no corner to tell,
-  pub corner-refused : plan.placed ≡ false → NoCorner why.NotPlaced ≡ corner_asked plan i
+  pub corner-refused : plan.placed ≡ false → Err why.NotPlaced ≡ corner_asked plan i
   corner-refused is = rw is
 
   -- and none for a number at or above the count;
-  pub corner-outside : plan.placed ≡ true → plan.count ≤ i → NoCorner why.NoSuchSite ≡ corner_asked plan i
+  pub corner-outside : plan.placed ≡ true → plan.count ≤ i → Err why.NoSuchSite ≡ corner_asked plan i
   corner-outside is outside = rw (is, le-leb plan.count i outside)
 
   -- else it tells the corner it holds.
-  pub corner-given : Valid plan → plan.placed ≡ true → i < plan.count → CornerIs (get_or plan.corners i 0) ≡ corner_asked plan i
+  pub corner-given : Valid plan → plan.placed ≡ true → i < plan.count → Ok (get_or plan.corners i 0) ≡ corner_asked plan i
   unfolding sites_in
-  corner-given valid is below = rw (is, lt-leb plan.count i below) (ap CornerIs (valid-corner valid is i below))
+  corner-given valid is below = rw (is, lt-leb plan.count i below) (ap Ok (valid-corner valid is i below))

@@ -1,6 +1,6 @@
 -- Entering a name and a place as they were read.
 -- Assumes nothing.
-use Rattle.std.specs.Prelude.{◌≡◌, refl, Bool, true, false, not, ◌&&◌, List, [], ◌∷◌, ℕ, ◌-◌, leb, length, replicate}
+use Rattle.std.specs.Prelude.{◌≡◌, refl, Bool, true, false, not, ◌&&◌, List, [], ◌∷◌, ℕ, ◌-◌, leb, length, replicate, Ok, Err}
 use Rattle.std.proofs.Common.{sym, ap, ap₂, ◌∙◌}
 use Rattle.std.proofs.lemmas.Bool.{false≢true}
 use Rattle.std.proofs.Math.Option.{Option, some, none}
@@ -12,15 +12,13 @@ use Rattle.plan.specs.declared.number.Coordinate.TheVariants.{At, Nowhere}
 use Rattle.plan.specs.declared.number.PlaceRead.{PlaceRead}
 use Rattle.plan.specs.declared.plan.Plan.{Plan}
 use Rattle.plan.specs.declared.plan.Planned.{Planned}
-use Rattle.plan.specs.declared.refusal.Outcome.{Outcome}
-use Rattle.plan.specs.declared.refusal.Outcome.TheVariants.{Done, Refused}
 use Rattle.plan.specs.declared.refusal.Refusal.{Refusal}
 use Rattle.plan.specs.declared.refusal.Refusal.TheVariants as why
 use Rattle.plan.specs.rules.Refusal.{Test, ◌gives◌, first_refusal, Result, refused, unless, after_tests}
 use Rattle.plan.specs.rules.Text.{most_name_bytes, is_name, or_zero}
 use Rattle.plan.specs.rules.List.{Site, place_at, ByRules, Wanted, enter_tests, entered, is_coordinate}
 use Rattle.plan.specs.calls.Plan.{unplaced_plan, name_of, name_held, Valid}
-use Rattle.plan.specs.calls.Answers.{handed}
+use Rattle.plan.specs.calls.Answers.{handed, Outcome}
 use Rattle.plan.specs.theorems.Entering.{Passed, coordinate-fits}
 use Rattle.plan.specs.theorems.Plan.{Holding}
 use Rattle.plan.specs.code.NameRead.{Padded, name_read, name_where}
@@ -44,8 +42,8 @@ wanted_read name place = record { named = name.ok; in_range = place.ok; site = s
 
 -- The refusal of a table as an outcome.
 abbrev pub outcome_of : Option Refusal → Outcome
-outcome_of none = Done
-outcome_of (some why) = Refused why
+outcome_of none = Ok tt
+outcome_of (some why) = Err why
 
 -- The tests of entering, over which of them hold.
 abbrev pub rows : (unnamed outside full named placed : Bool) → List Test
@@ -59,21 +57,21 @@ rows unnamed outside full named placed =
 
 -- ---- laws: the outcome that the code finds is that of the table
 
-pub outcome-refused : (first : Option Refusal) {why : Refusal} → outcome_of first ≡ Refused why → first ≡ some why
+pub outcome-refused : (first : Option Refusal) {why : Refusal} → outcome_of first ≡ Err why → first ≡ some why
 outcome-refused none is = cc
 outcome-refused (some other) is = cc
 
-pub outcome-done : (first : Option Refusal) → outcome_of first ≡ Done → first ≡ none
+pub outcome-done : (first : Option Refusal) → outcome_of first ≡ Ok tt → first ≡ none
 outcome-done none is = refl
 outcome-done (some other) is = cc
 
 module _ (tests : List Test) {outcome : Outcome} (is : outcome ≡ outcome_of (first_refusal tests)) where
   -- Refused, so is what the tests decide;
-  pub outcome-refuses : {A : Type 0} (value : A) {why : Refusal} → outcome ≡ Refused why → after_tests tests value ≡ refused why
+  pub outcome-refuses : {A : Type 0} (value : A) {why : Refusal} → outcome ≡ Err why → after_tests tests value ≡ refused why
   outcome-refuses value so = ap (λ (first : Option Refusal). unless first value) (outcome-refused (first_refusal tests) (sym is ∙ so))
 
   -- done, no test holds.
-  pub outcome-none : outcome ≡ Done → first_refusal tests ≡ none
+  pub outcome-none : outcome ≡ Ok tt → first_refusal tests ≡ none
   outcome-none so = outcome-done (first_refusal tests) (sym is ∙ so)
 
 -- The tests on what a plan holds are those on its sites.

@@ -3,7 +3,7 @@
 -- Assumes nothing.
 use Rattle.std.proofs.Math.Path.{◌≡◌, refl, sym, ap, subst}
 use Rattle.std.proofs.Common.{◌∙◌, mul-le-mul, arith}
-use Rattle.std.specs.Prelude.{Bool, true, false, not, ℕ, ◌*◌, ◌≤◌, ◌<◌, eqb}
+use Rattle.std.specs.Prelude.{Bool, true, false, not, ℕ, ◌*◌, ◌≤◌, ◌<◌, eqb, Ok, Err}
 use Rattle.std.proofs.lemmas.Bool.{false≢true}
 use mathlib.Core.List.{List, [], ◌∷◌}
 use Rattle.std.proofs.Math.ListN.{length, take}
@@ -13,13 +13,8 @@ use Rattle.placing.specs.declared.way.Way.{Way}
 use Rattle.placing.specs.rules.Answer.{is_side}
 use Rattle.placing.specs.deciding.Answer.{answer_of, chosen_at}
 use Rattle.placing.specs.theorems.Given.{found-chosen}
-use Rattle.plan.specs.declared.plan.AskedSide.TheVariants.{SideIs, NoSide}
 use Rattle.plan.specs.declared.plan.Plan.{Plan}
 use Rattle.plan.specs.declared.plan.Planned.{Planned}
-use Rattle.plan.specs.declared.plan.Written.{Written}
-use Rattle.plan.specs.declared.plan.Written.TheVariants.{NotWritten}
-use Rattle.plan.specs.declared.refusal.Outcome.{Outcome}
-use Rattle.plan.specs.declared.refusal.Outcome.TheVariants.{Done, Refused}
 use Rattle.plan.specs.declared.refusal.Refusal.{Refusal}
 use Rattle.plan.specs.declared.refusal.Refusal.TheVariants.{BadNumber, NoSites, NotPlaced, ShortBuffer, NoGoodChoice}
 use Rattle.plan.specs.rules.Refusal.{number_of, ◌gives◌, first_refusal, number_by, Result, accepted, refused, unless, after, after_tests}
@@ -47,6 +42,8 @@ use Rattle.plan.specs.calls.Answers.{
   list_placed,
   placed_at,
   list_placed_at,
+  Written,
+  Outcome,
 }
 use Rattle.plan.specs.Demands.{WriteTold, SheetWritten}
 use Rattle.plan.specs.theorems.Reading.{reads-are, read-listed}
@@ -95,12 +92,12 @@ module _ (plan : Plan) (buffer : List ℕ) where
       (told, (left_so, (sheet, write-told plan buffer told left_so)))
 
   -- A plan that is not placed is refused.
-  pub write-unplaced : plan.placed ≡ false → WritePromised plan buffer (NotWritten NotPlaced) buffer
+  pub write-unplaced : plan.placed ≡ false → WritePromised plan buffer (Err NotPlaced) buffer
   write-unplaced is = promised (refused NotPlaced) (rw is) refl tt
 
 module _ {plan : Plan} (valid : Valid plan) (is : plan.placed ≡ true) {buffer : List ℕ} where
   -- There is no room.
-  pub write-short : length buffer < length (sheet_for plan) → WritePromised plan buffer (NotWritten ShortBuffer) buffer
+  pub write-short : length buffer < length (sheet_for plan) → WritePromised plan buffer (Err ShortBuffer) buffer
   unfolding sites_in
   write-short short = promised plan buffer (refused ShortBuffer) (rw (is, lt-ltb (length buffer) (length (sheet_for plan)) short)) refl tt
 
@@ -108,8 +105,8 @@ module _ {plan : Plan} (valid : Valid plan) (is : plan.placed ≡ true) {buffer 
 
 -- What is written of a list that was read and placed: the line of its refusal, or the sheet of its plan.
 abbrev pub written_by : Outcome → Plan → List ℕ
-written_by Done plan = sheet_for plan
-written_by (Refused why) plan = refusal_line (number_of why)
+written_by (Ok done) plan = sheet_for plan
+written_by (Err why) plan = refusal_line (number_of why)
 
 abbrev pub planned_output : Planned → List ℕ
 planned_output planned = written_by planned.outcome planned.plan
@@ -117,7 +114,7 @@ planned_output planned = written_by planned.outcome planned.plan
 -- It can be: where the outcome is no refusal the plan is placed.
 pub record MayPut (planned : Planned) (out : List ℕ) : Type 0 where
   pub valid : Valid planned.plan
-  pub done_placed : planned.outcome ≡ Done → planned.plan.placed ≡ true
+  pub done_placed : planned.outcome ≡ Ok tt → planned.plan.placed ≡ true
   pub room : longest_sheet ≤ length out
 
 -- What is handed back placed, or refused, can be.
@@ -126,11 +123,11 @@ pub handed-put : {A : Type 0} {r : Planned} {out : List ℕ} (plan-of : A → Pl
 handed-put {A} {r} plan-of other result is valid placed room =
     record {
       valid = valid;
-      done_placed = subst (λ (p : Planned). p.outcome ≡ Done → p.plan.placed ≡ true) (sym is) (by_result result);
+      done_placed = subst (λ (p : Planned). p.outcome ≡ Ok tt → p.plan.placed ≡ true) (sym is) (by_result result);
       room = room;
     }
   where
-    by_result : (result : Result A) → (handed plan-of other result).outcome ≡ Done → (handed plan-of other result).plan.placed ≡ true
+    by_result : (result : Result A) → (handed plan-of other result).outcome ≡ Ok tt → (handed plan-of other result).plan.placed ≡ true
     by_result (accepted value) done = placed value
     by_result (refused why) done = let z : ◌≡◌ {A = ℕ} 0 1 = cc in absurd (omega arith)
 
@@ -151,10 +148,10 @@ outcome_of p = p.outcome
 
 -- Where reading is refused, so is the list.
 pub reading-refused : (way : Way) (text : List ℕ) {listed : Planned} {why : Refusal} → listed ≡ read_from text
-    → listed.outcome ≡ Refused why → listed ≡ list_placed way text
+    → listed.outcome ≡ Err why → listed ≡ list_placed way text
 reading-refused way text {listed} {why} listed-is is = listed-is ∙ by-sites (read_list text) (ap outcome_of (sym listed-is) ∙ is)
   where
-    by-sites : (sites : Result (List Site)) → (handed unplaced_plan started sites).outcome ≡ Refused why
+    by-sites : (sites : Result (List Site)) → (handed unplaced_plan started sites).outcome ≡ Err why
         → handed unplaced_plan started sites ≡ handed (placed_plan way) started (to_place sites)
     by-sites (accepted sites) is = let z : ◌≡◌ {A = ℕ} 0 1 = cc in absurd (omega arith)
     by-sites (refused other) is = refl
@@ -166,15 +163,15 @@ enough {sites} text table size read = let few = (read-listed text sites read).fe
 
 module _ (way : Way) (text table : List ℕ) (size : length table ≡ full_table) where
   -- Where no side is found, the list has no sites;
-  pub reading-unfound : {listed : Planned} {why : Refusal} → listed ≡ read_from text → listed.outcome ≡ Done
-      → NoSide why ≡ found_in listed.plan way table → refusal-of listed.plan why ≡ list_placed way text
+  pub reading-unfound : {listed : Planned} {why : Refusal} → listed ≡ read_from text → listed.outcome ≡ Ok tt
+      → Err why ≡ found_in listed.plan way table → refusal-of listed.plan why ≡ list_placed way text
   unfolding unplaced_plan
   reading-unfound {listed} {why} listed-is is_read found =
-      subst (λ (p : Planned). NoSide why ≡ found_in p.plan way table → refusal-of p.plan why ≡ list_placed way text) (sym listed-is)
+      subst (λ (p : Planned). Err why ≡ found_in p.plan way table → refusal-of p.plan why ≡ list_placed way text) (sym listed-is)
       (by-sites (read_list text) refl (ap outcome_of (sym listed-is) ∙ is_read)) found
     where
-      by-sites : (sites : Result (List Site)) → read_list text ≡ sites → (handed unplaced_plan started sites).outcome ≡ Done
-          → NoSide why ≡ found_in (handed unplaced_plan started sites).plan way table
+      by-sites : (sites : Result (List Site)) → read_list text ≡ sites → (handed unplaced_plan started sites).outcome ≡ Ok tt
+          → Err why ≡ found_in (handed unplaced_plan started sites).plan way table
           → refusal-of (handed unplaced_plan started sites).plan why ≡ handed (placed_plan way) started (to_place sites)
       by-sites (refused other) read is_read found = let z : ◌≡◌ {A = ℕ} 0 1 = cc in absurd (omega arith)
       by-sites (accepted []) read is_read found = let same : why ≡ NoSites = cc in ap (refusal-of started) same
@@ -185,16 +182,16 @@ module _ (way : Way) (text table : List ℕ) (size : length table ≡ full_table
 
   -- else it is placed at the side found.
   pub reading-placed : {listed done : Planned} {side : Side} (again : List ℕ) → length again ≡ full_table → listed ≡ read_from text
-      → listed.outcome ≡ Done → SideIs side ≡ found_in listed.plan way table → done ≡ chosen_in listed.plan way side again
+      → listed.outcome ≡ Ok tt → Ok side ≡ found_in listed.plan way table → done ≡ chosen_in listed.plan way side again
       → done ≡ list_placed way text
   unfolding unplaced_plan
   reading-placed {listed} {done} {side} again size-again listed-is is_read found done-is =
       done-is
-      ∙ subst (λ (p : Planned). SideIs side ≡ found_in p.plan way table → chosen_in p.plan way side again ≡ list_placed way text) (sym listed-is)
+      ∙ subst (λ (p : Planned). Ok side ≡ found_in p.plan way table → chosen_in p.plan way side again ≡ list_placed way text) (sym listed-is)
       (by-sites (read_list text) refl (ap outcome_of (sym listed-is) ∙ is_read)) found
     where
-      by-sites : (sites : Result (List Site)) → read_list text ≡ sites → (handed unplaced_plan started sites).outcome ≡ Done
-          → SideIs side ≡ found_in (handed unplaced_plan started sites).plan way table
+      by-sites : (sites : Result (List Site)) → read_list text ≡ sites → (handed unplaced_plan started sites).outcome ≡ Ok tt
+          → Ok side ≡ found_in (handed unplaced_plan started sites).plan way table
           → chosen_in (handed unplaced_plan started sites).plan way side again ≡ handed (placed_plan way) started (to_place sites)
       by-sites (refused other) read is_read found = let z : ◌≡◌ {A = ℕ} 0 1 = cc in absurd (omega arith)
       by-sites (accepted []) read is_read found = let z : ◌≡◌ {A = ℕ} 0 1 = cc in absurd (omega arith)
@@ -231,11 +228,11 @@ side-refused-at way side text given = rw given
 
 module _ (way : Way) (side : Side) (given : is_side side ≡ true) (text : List ℕ) where
   -- Where reading is refused, so is the list.
-  pub reading-refused-at : {listed : Planned} {why : Refusal} → listed ≡ read_from text → listed.outcome ≡ Refused why
+  pub reading-refused-at : {listed : Planned} {why : Refusal} → listed ≡ read_from text → listed.outcome ≡ Err why
       → listed ≡ list_placed_at way side text
   reading-refused-at {listed} {why} listed-is is = rw given (listed-is ∙ by-sites (read_list text) (ap outcome_of (sym listed-is) ∙ is))
     where
-      by-sites : (sites : Result (List Site)) → (handed unplaced_plan started sites).outcome ≡ Refused why
+      by-sites : (sites : Result (List Site)) → (handed unplaced_plan started sites).outcome ≡ Err why
           → handed unplaced_plan started sites
           ≡ handed (placed_at way side) started
           (after sites (λ l. after_tests (no_sites (length l) ∷ no_good (exists_at way side l) ∷ []) l))
@@ -244,7 +241,7 @@ module _ (way : Way) (side : Side) (given : is_side side ≡ true) (text : List 
 
   -- So, with a table that is long enough, the list is placed,
   module _ {listed chosen : Planned} (table : List ℕ) (size : length table ≡ full_table) (listed-is : listed ≡ read_from text)
-      (is_read : listed.outcome ≡ Done) (chosen_is : chosen ≡ chosen_in listed.plan way side table) where
+      (is_read : listed.outcome ≡ Ok tt) (chosen_is : chosen ≡ chosen_in listed.plan way side table) where
     abbrev comes : Result (List Site)
     comes = after (read_list text) (λ l. after_tests (no_sites (length l) ∷ no_good (exists_at way side l) ∷ []) l)
 
@@ -254,7 +251,7 @@ module _ (way : Way) (side : Side) (given : is_side side ≡ true) (text : List 
         ∙ ap (λ (p : Planned). chosen_in p.plan way side table) listed-is
         ∙ by-sites (read_list text) refl (ap outcome_of (sym listed-is) ∙ is_read)
       where
-        by-sites : (sites : Result (List Site)) → read_list text ≡ sites → (handed unplaced_plan started sites).outcome ≡ Done
+        by-sites : (sites : Result (List Site)) → read_list text ≡ sites → (handed unplaced_plan started sites).outcome ≡ Ok tt
             → chosen_in (handed unplaced_plan started sites).plan way side table
             ≡ handed (placed_at way side) (handed unplaced_plan started sites).plan
             (after sites (λ l. after_tests (no_sites (length l) ∷ no_good (exists_at way side l) ∷ []) l))
@@ -270,19 +267,19 @@ module _ (way : Way) (side : Side) (given : is_side side ≡ true) (text : List 
             by_tests false true = refl
             by_tests false false = refl
 
-    pub choosing-done : chosen.outcome ≡ Done → chosen ≡ list_placed_at way side text
+    pub choosing-done : chosen.outcome ≡ Ok tt → chosen ≡ list_placed_at way side text
     choosing-done done = rw given (chosen-comes ∙ go comes (ap outcome_of (sym chosen-comes) ∙ done))
       where
-        go : (result : Result (List Site)) → (handed (placed_at way side) (read_from text).plan result).outcome ≡ Done
+        go : (result : Result (List Site)) → (handed (placed_at way side) (read_from text).plan result).outcome ≡ Ok tt
             → handed (placed_at way side) (read_from text).plan result ≡ handed (placed_at way side) started result
         go (accepted sites) done = refl
         go (refused why) done = let z : ◌≡◌ {A = ℕ} 0 1 = cc in absurd (omega arith)
 
     -- or refused.
-    pub choosing-refused : {why : Refusal} → chosen.outcome ≡ Refused why → refusal-of started why ≡ list_placed_at way side text
+    pub choosing-refused : {why : Refusal} → chosen.outcome ≡ Err why → refusal-of started why ≡ list_placed_at way side text
     choosing-refused {why} refusal = rw given (go comes (ap outcome_of (sym chosen-comes) ∙ refusal))
       where
-        go : (result : Result (List Site)) → (handed (placed_at way side) (read_from text).plan result).outcome ≡ Refused why
+        go : (result : Result (List Site)) → (handed (placed_at way side) (read_from text).plan result).outcome ≡ Err why
             → refusal-of started why ≡ handed (placed_at way side) started result
         go (accepted sites) is = let z : ◌≡◌ {A = ℕ} 0 1 = cc in absurd (omega arith)
         go (refused other) is = let same : why ≡ other = cc in ap (refusal-of started) same

@@ -1,6 +1,6 @@
 -- Reading a list line after line: what holds of the plan so far and of the text that is left.
 -- Assumes nothing.
-use Rattle.std.specs.Prelude.{◌≡◌, refl, Bool, true, false, List, [], ◌∷◌, ◌++◌, ℕ, ◌+◌, ◌≤◌, ◌<◌, length, drop}
+use Rattle.std.specs.Prelude.{◌≡◌, refl, Bool, true, false, List, [], ◌∷◌, ◌++◌, ℕ, ◌+◌, ◌≤◌, ◌<◌, length, drop, Some, None, Ok, Err}
 use Rattle.std.proofs.Common.{sym, ◌∙◌, arith, le-ltb, lt-ltb, length-drop, drop_of_length-le}
 use Rattle.std.proofs.Math.Path.{ap}
 use Rattle.std.proofs.Math.Option.{Option, none}
@@ -9,9 +9,6 @@ use Rattle.placing.specs.rules.Units.{most_sites}
 use Rattle.plan.specs.declared.list.LineEnd.TheVariants.{Missing}
 use Rattle.plan.specs.declared.list.LineRead.{LineRead}
 use Rattle.plan.specs.declared.list.LinesRead.{LinesRead}
-use Rattle.plan.specs.declared.list.Stop.TheVariants.{AtLine, Nowhere}
-use Rattle.plan.specs.declared.refusal.Outcome.{Outcome}
-use Rattle.plan.specs.declared.refusal.Outcome.TheVariants.{Done, Refused}
 use Rattle.plan.specs.declared.refusal.Refusal.{Refusal}
 use Rattle.plan.specs.declared.refusal.Refusal.TheVariants.{BadLine}
 use Rattle.plan.specs.declared.plan.Plan.{Plan}
@@ -22,7 +19,7 @@ use Rattle.plan.specs.rules.List.{Site, Listed, with_site, list_text, most_line_
 use Rattle.plan.specs.rules.List.{Reads, end, refused_line, accepted_line}
 use Rattle.plan.specs.deciding.Reading.{cut_line}
 use Rattle.plan.specs.calls.Plan.{unplaced_plan, sites_in, Valid, is_unplaced}
-use Rattle.plan.specs.calls.Answers.{started, handed, read_from}
+use Rattle.plan.specs.calls.Answers.{started, handed, read_from, Outcome}
 use Rattle.plan.specs.Demands.{StopTold, at_a_line, at_no_line}
 use Rattle.plan.specs.theorems.Sites.{listed-none}
 use Rattle.plan.specs.theorems.Reading.{cut-first-line, first-line-whole, LineOf, entered-line, list-one-more}
@@ -60,12 +57,12 @@ with_read plan line =
 -- Reading is over: at a line that is refused, or at the text's end.
 pub data LinesReads (text : List ℕ) : LinesRead → Type 0 where
   stops : {plan : Plan} {at : ℕ} {line : TextLine} {why : Refusal} (so_far : Reading text plan at) → FirstLine (drop at text) line
-      → line_entered so_far.sites line ≡ refused why → LinesReads text (record { outcome = Refused why; plan = plan; at = at })
+      → line_entered so_far.sites line ≡ refused why → LinesReads text (record { outcome = Err why; plan = plan; at = at })
   ends : {plan : Plan} {at : ℕ} → Reading text plan at → length text ≤ at
-      → LinesReads text (record { outcome = Done; plan = plan; at = at })
+      → LinesReads text (record { outcome = Ok tt; plan = plan; at = at })
 
 -- No answer is both.
-refused-not-done : {why : Refusal} → Refused why ≡ Done → ⊥
+refused-not-done : {why : Refusal} → ◌≡◌ {A = Outcome} (Err why) (Ok tt) → ⊥
 refused-not-done so = let z : ◌≡◌ {A = ℕ} 0 1 = cc in absurd (omega arith)
 
 -- At the start, with the empty plan.
@@ -90,7 +87,7 @@ module _ {text : List ℕ} {plan : Plan} {at : ℕ} (so_far : Reading text plan 
 
   -- Before it, without a whole line from there on, reading stops.
   pub reading-missing : {r : LinesRead} → at < length text → LineEnds text at Missing
-      → r ≡ record { outcome = Refused BadLine; plan = plan; at = at } → LinesReads text r
+      → r ≡ record { outcome = Err BadLine; plan = plan; at = at } → LinesReads text r
   reading-missing further missing is =
       let line = cut_line (drop at text) in
       let first = cut-first-line (drop at text) (omega (arith, length-drop at text)) in
@@ -115,12 +112,12 @@ module _ {text : List ℕ} {plan : Plan} {at : ℕ} (so_far : Reading text plan 
         ∙ reads.enters (sites_in plan)
 
     -- Refused, reading stops.
-    pub reading-refused : {r : LinesRead} {why : Refusal} → outcome ≡ Refused why
-        → r ≡ record { outcome = Refused why; plan = plan; at = at } → LinesReads text r
+    pub reading-refused : {r : LinesRead} {why : Refusal} → outcome ≡ Err why
+        → r ≡ record { outcome = Err why; plan = plan; at = at } → LinesReads text r
     reading-refused so r-is = rw r-is (stops so_far found.first (line_is ∙ outcome-refuses (read_tests (sites_in plan) line) is next so))
 
     -- Accepted, there is room for its site,
-    module _ (so : outcome ≡ Done) where
+    module _ (so : outcome ≡ Ok tt) where
       none_holds : first_refusal (read_tests (sites_in plan) line) ≡ none
       none_holds = outcome-none (read_tests (sites_in plan) line) is so
 
@@ -169,7 +166,7 @@ module _ {text : List ℕ} {plan : Plan} {at : ℕ} (so_far : Reading text plan 
 
 module _ {text : List ℕ} where
   -- Where it stopped at a line, the text is refused, and a refusal hands back an empty plan.
-  pub lines-refused : {r : LinesRead} {why : Refusal} {fresh : Plan} {planned : Planned} → LinesReads text r → r.outcome ≡ Refused why
+  pub lines-refused : {r : LinesRead} {why : Refusal} {fresh : Plan} {planned : Planned} → LinesReads text r → r.outcome ≡ Err why
       → (fresh ≡ started) × Valid fresh → planned ≡ refusal-of fresh why → (planned ≡ read_from text) × Valid planned.plan
   lines-refused {why = why} (stops {why = other} so_far first refuses) so empty is =
       let same : other ≡ why = cc in
@@ -184,8 +181,8 @@ module _ {text : List ℕ} where
   lines-few (ends so_far past) = reading-few so_far
 
   -- The line where it stopped is the first refused one.
-  pub lines-stop : {r : LinesRead} {why : Refusal} → LinesReads text r → r.outcome ≡ Refused why
-      → StopTold text (AtLine (record { number = r.plan.count + 1; at = r.at; why = why }))
+  pub lines-stop : {r : LinesRead} {why : Refusal} → LinesReads text r → r.outcome ≡ Err why
+      → StopTold text (Some (record { number = r.plan.count + 1; at = r.at; why = why }))
   unfolding first-refused unplaced_plan
   lines-stop {why = why} (stops {why = other} so_far first refuses) so =
       let same : other ≡ why = cc in
@@ -197,16 +194,16 @@ module _ {text : List ℕ} where
   lines-stop (ends so_far past) so = absurd (refused-not-done (sym so))
 
   -- Where it stopped nowhere, the whole text is read into the plan,
-  pub lines-done : {r : LinesRead} → LinesReads text r → r.outcome ≡ Done
-      → (record { outcome = Done; plan = r.plan } ≡ read_from text) × Valid r.plan
+  pub lines-done : {r : LinesRead} → LinesReads text r → r.outcome ≡ Ok tt
+      → (record { outcome = Ok tt; plan = r.plan } ≡ read_from text) × Valid r.plan
   lines-done (stops so_far first refuses) so = absurd (refused-not-done so)
   lines-done (ends so_far past) so = (
-    ap (λ (p : Plan). record { outcome = Done; plan = p }) so_far.held
+    ap (λ (p : Plan). record { outcome = Ok tt; plan = p }) so_far.held
         ∙ ap (handed unplaced_plan started) (sym (reads-are (reading-all so_far past))),
     reading-valid so_far,
   )
 
   -- and every line is accepted.
-  pub lines-nowhere : {r : LinesRead} → LinesReads text r → r.outcome ≡ Done → StopTold text Nowhere
+  pub lines-nowhere : {r : LinesRead} → LinesReads text r → r.outcome ≡ Ok tt → StopTold text None
   lines-nowhere (stops so_far first refuses) so = absurd (refused-not-done so)
   lines-nowhere (ends so_far past) so = at_no_line (reading-all so_far past)

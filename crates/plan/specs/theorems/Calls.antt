@@ -1,6 +1,6 @@
 -- What each call tells, from the equation that its contract gives: demand 1, and the value that an answer carries.
 -- Assumes nothing.
-use Rattle.std.specs.Prelude.{◌≡◌, refl, Bool, true, false, not, List, [], ◌∷◌, ◌⊎◌, ℕ, ◌*◌, ◌≤◌, ◌<◌, eqb, ltb, length}
+use Rattle.std.specs.Prelude.{◌≡◌, refl, Bool, true, false, not, List, [], ◌∷◌, ◌⊎◌, ℕ, ◌*◌, ◌≤◌, ◌<◌, eqb, ltb, length, Ok}
 use Rattle.std.proofs.Common.{sym, ap, ◌∙◌, subst, ⊎_elim, arith, le-leb, ne_eqb}
 use Rattle.std.proofs.Math.Option.{Option, some, none}
 use Rattle.std.proofs.lemmas.Bool.{lt-leb}
@@ -14,12 +14,6 @@ use Rattle.plan.specs.declared.refusal.Refusal.{Refusal}
 use Rattle.plan.specs.declared.refusal.Refusal.TheVariants.{BadNumber, NoSites, ShortTable, NoGoodChoice}
 use Rattle.plan.specs.declared.plan.Plan.{Plan}
 use Rattle.plan.specs.declared.plan.Planned.{Planned}
-use Rattle.plan.specs.declared.plan.AskedSide.{AskedSide}
-use Rattle.plan.specs.declared.plan.AskedCorner.{AskedCorner}
-use Rattle.plan.specs.declared.plan.Written.{Written}
-use Rattle.plan.specs.declared.plan.AskedSide.TheVariants.{SideIs}
-use Rattle.plan.specs.declared.plan.AskedCorner.TheVariants.{CornerIs}
-use Rattle.plan.specs.declared.plan.Written.TheVariants.{Bytes}
 use Rattle.plan.specs.rules.Refusal.{number_of, ◌gives◌, first_refusal, refusal_number, number_by, unless}
 use Rattle.plan.specs.rules.Text.{decimal, number_in}
 use Rattle.plan.specs.rules.List.{Site, places_of, enter_tests, wanted_at}
@@ -50,6 +44,9 @@ use Rattle.plan.specs.calls.Answers.{
   written_answer,
   written_in,
   buffer_after,
+  AskedSide,
+  AskedCorner,
+  Written,
 }
 use Rattle.plan.specs.Demands.{Refuses, EnterTold, FindTold, ChooseTold, SideTold, CornerTold, WriteTold}
 use Rattle.plan.specs.calls.Given.{coordinate_read, coordinate_number}
@@ -167,8 +164,8 @@ write-told plan buffer is left =
     by_first (some why) sheet = (record { number_is = refl; as_it_came = λ given. refl }, sym (none-carried why (length sheet)))
 
 -- An accepted answer carries its value, and where a number is told none is carried.
-pub carried-values : ((side : Side) → side_carried (SideIs side) ≡ some (side_number side))
-    × (((corner : ℕ) → corner_carried (CornerIs corner) ≡ some corner) × ((n : ℕ) → written_length (Bytes n) ≡ some n))
+pub carried-values : ((side : Side) → side_carried (Ok side) ≡ some (side_number side))
+    × (((corner : ℕ) → corner_carried (Ok corner) ≡ some corner) × ((n : ℕ) → written_length (Ok n) ≡ some n))
 carried-values = (λ side. refl, (λ corner. refl, λ n. refl))
 
 pub carried-accepted : (value : ℕ) → carried_at 0 value ≡ some value

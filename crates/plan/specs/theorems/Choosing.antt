@@ -1,6 +1,6 @@
 -- Document 02, L1 and L2: which sides a plan can be placed at by a way, and what finding and choosing lead to.
 -- Assumes nothing.
-use Rattle.std.specs.Prelude.{◌≡◌, refl, Bool, true, false, not, List, [], ◌∷◌, ℕ, ◌*◌, ◌≤◌, ◌<◌, eqb, ltb, length, drop, replicate}
+use Rattle.std.specs.Prelude.{◌≡◌, refl, Bool, true, false, not, List, [], ◌∷◌, ℕ, ◌*◌, ◌≤◌, ◌<◌, eqb, ltb, length, drop, replicate, Ok, Err}
 use Rattle.std.proofs.Common.{sym, ap, ◌∙◌, arith, ne_eqb, le-ltb, lt-ltb, length-append, length-drop}
 use Rattle.std.proofs.lemmas.Bool.{false≢true}
 use Rattle.std.proofs.lemmas.List.{length-replicate}
@@ -12,9 +12,7 @@ use Rattle.placing.specs.rules.Answer.{Answer, is_side, judged_at, IsChosen}
 use Rattle.placing.specs.deciding.Answer.{answer_of, chosen_at}
 use Rattle.placing.specs.theorems.Answer.{answer-is}
 use Rattle.placing.specs.theorems.Given.{judged-range, some-found, found_some, is-chosen-at, answer-chosen, found-chosen, up-to-found, above-found}
-use Rattle.plan.specs.declared.refusal.Outcome.TheVariants.{Done, Refused}
 use Rattle.plan.specs.declared.refusal.Refusal.TheVariants.{BadNumber, NoSites, ShortTable, NoGoodChoice}
-use Rattle.plan.specs.declared.plan.AskedSide.TheVariants.{SideIs}
 use Rattle.plan.specs.declared.plan.Plan.{Plan}
 use Rattle.plan.specs.declared.plan.Planned.{Planned}
 use Rattle.plan.specs.rules.Refusal.{number_by, ◌gives◌, first_refusal, accepted, unless, after_tests}
@@ -107,12 +105,12 @@ module _ (plan : Plan) (table : List ℕ) (some_sites : plan.count ≡ 0 → ⊥
     -- Where a good choice exists the plan is placed there;
     pub chosen-done : {way : Way} → SomeGood way (judged_at side) (places_of (sites_in plan))
         → chosen_in plan way side table
-        ≡ record { outcome = Done; plan = placed_with (sites_in plan) way (chosen_at way side (places_of (sites_in plan))) }
+        ≡ record { outcome = Ok tt; plan = placed_with (sites_in plan) way (chosen_at way side (places_of (sites_in plan))) }
     chosen-done {way} some_good = ap (handed (placed_with (sites_in plan) way) plan) (chosen-tested way (some-found some_good))
 
     -- where none does, 12 is given.
     pub chosen_none : {way : Way} → (SomeGood way (judged_at side) (places_of (sites_in plan)) → ⊥)
-        → chosen_in plan way side table ≡ record { outcome = Refused NoGoodChoice; plan = plan }
+        → chosen_in plan way side table ≡ record { outcome = Err NoGoodChoice; plan = plan }
     chosen_none {way} none_good =
         ap (handed (placed_with (sites_in plan) way) plan) (chosen-tested way (by-search (exists_at way side (sites_in plan)) refl))
       where
@@ -124,12 +122,12 @@ module _ (plan : Plan) (table : List ℕ) (some_sites : plan.count ≡ 0 → ⊥
       -- Every side up to the one found is accepted,
       pub up-to-accepted : judged_at side ≤ judged_at (answer_of way (places_of (sites_in plan))).side
           → chosen_in plan way side table
-          ≡ record { outcome = Done; plan = placed_with (sites_in plan) way (chosen_at way side (places_of (sites_in plan))) }
+          ≡ record { outcome = Ok tt; plan = placed_with (sites_in plan) way (chosen_at way side (places_of (sites_in plan))) }
       up-to-accepted smaller = chosen-done (up-to-found places smaller)
 
       -- and none above it.
       pub above-refused : judged_at (answer_of way (places_of (sites_in plan))).side < judged_at side
-          → chosen_in plan way side table ≡ record { outcome = Refused NoGoodChoice; plan = plan }
+          → chosen_in plan way side table ≡ record { outcome = Err NoGoodChoice; plan = plan }
       above-refused above =
           chosen_none (λ some_good. above-found places above (judged-range side given).1 some_good.choice some_good.good)
 
@@ -141,20 +139,20 @@ cleared-length n table room =
 -- Choosing at the answer's side gives the answer.
 answer-placed : (plan : Plan) (way : Way) (table : List ℕ) → Distinct (places_of (sites_in plan)) → (plan.count ≡ 0 → ⊥)
     → plan.count * plan.count ≤ length table
-    → chosen_in plan way (answer_of way (places_of (sites_in plan))).side table ≡ record { outcome = Done; plan = placed_plan way (sites_in plan) }
+    → chosen_in plan way (answer_of way (places_of (sites_in plan))).side table ≡ record { outcome = Ok tt; plan = placed_plan way (sites_in plan) }
 answer-placed plan way table places some_sites room =
     let chosen = answer-chosen (answer-is way (places_of (sites_in plan)) places) in
     chosen-done plan table some_sites room (answer_of way (places_of (sites_in plan))).side chosen.given
     (record { choice = _; good = chosen.first.good })
-    ∙ ap {B = Planned} (λ (a : Answer). record { outcome = Done; plan = placed_with (sites_in plan) way a }) (found-chosen way places)
+    ∙ ap {B = Planned} (λ (a : Answer). record { outcome = Ok tt; plan = placed_with (sites_in plan) way a }) (found-chosen way places)
 
 -- So finding, and choosing at what was found with the table that finding left, gives the answer.
 pub found-then-chosen : (plan : Plan) (way : Way) (table : List ℕ) {side : Side} → Distinct (places_of (sites_in plan)) → (plan.count ≡ 0 → ⊥)
-    → plan.count * plan.count ≤ length table → found_in plan way table ≡ SideIs side
-    → chosen_in plan way side (table_found plan table) ≡ record { outcome = Done; plan = placed_plan way (sites_in plan) }
+    → plan.count * plan.count ≤ length table → found_in plan way table ≡ Ok side
+    → chosen_in plan way side (table_found plan table) ≡ record { outcome = Ok tt; plan = placed_plan way (sites_in plan) }
 found-then-chosen plan way table {side} places some_sites room found =
     let done = found-done plan table some_sites room way in
-    let told : SideIs side ≡ SideIs (answer_of way (places_of (sites_in plan))).side = sym found ∙ ap side_answer done in
+    let told : Ok side ≡ Ok (answer_of way (places_of (sites_in plan))).side = sym found ∙ ap side_answer done in
     let same : side ≡ (answer_of way (places_of (sites_in plan))).side = cc in
     let left = table-found plan table some_sites room in
     let size : length (table_found plan table) ≡ length table = ap length left ∙ cleared-length plan.count table room in
@@ -164,16 +162,16 @@ found-then-chosen plan way table {side} places some_sites room found =
 -- The plan of some sites, placed by choosing at the side of what is chosen for them.
 pub placed_by : {plan : Plan} {sites : List Site} {way : Way} (answer : Answer) (table : List ℕ) → Holding plan sites → sites_in plan ≡ sites
     → 1 ≤ length sites → plan.count * plan.count ≤ length table → IsChosen way (places_of sites) answer
-    → chosen_in plan way answer.side table ≡ record { outcome = Done; plan = placed_with sites way answer }
+    → chosen_in plan way answer.side table ≡ record { outcome = Ok tt; plan = placed_with sites way answer }
 placed_by {plan} {sites} {way} answer table holding same nonempty room chosen =
     chosen-done plan table (λ zero. omega (arith, holding.count)) room answer.side chosen.given
     (rw same (record { choice = answer.corners; good = chosen.first.good }))
-    ∙ ap {B = Planned} (λ (l : List Site). record { outcome = Done; plan = placed_with l way (chosen_at way answer.side (places_of l)) }) same
-    ∙ ap {B = Planned} (λ (a : Answer). record { outcome = Done; plan = placed_with sites way a }) (sym (is-chosen-at chosen))
+    ∙ ap {B = Planned} (λ (l : List Site). record { outcome = Ok tt; plan = placed_with l way (chosen_at way answer.side (places_of l)) }) same
+    ∙ ap {B = Planned} (λ (a : Answer). record { outcome = Ok tt; plan = placed_with sites way a }) (sym (is-chosen-at chosen))
 
 -- "Placing a placed plan gives the same answer again": choosing again the same way at the same side changes nothing.
 pub chosen-again : {plan : Plan} (table : List ℕ) → Valid plan → plan.placed ≡ true → plan.count * plan.count ≤ length table
-    → chosen_in plan plan.way plan.side table ≡ record { outcome = Done; plan = plan }
+    → chosen_in plan plan.way plan.side table ≡ record { outcome = Ok tt; plan = plan }
 unfolding unplaced_plan placed_with
 chosen-again table (is_unplaced sites listed) is-so room = absurd (false≢true is-so)
 chosen-again table (is_placed sites way answer listed nonempty chosen) is-so room =

@@ -1,12 +1,11 @@
 -- The first refused line: whoever finds a line that is refused behind accepted lines finds the same one, with the same number; a text
 -- that is accepted has none; and reading stops there.
 -- Assumes nothing.
-use Rattle.std.specs.Prelude.{◌≡◌, refl, true, List, [], ◌∷◌, ◌++◌, ℕ, suc, ◌<◌, length}
+use Rattle.std.specs.Prelude.{◌≡◌, refl, true, List, [], ◌∷◌, ◌++◌, ℕ, suc, ◌<◌, length, Some, None}
 use Rattle.std.proofs.Common.{sym, ap, ◌∙◌, append_assoc, append-nil, arith, length-append, length-drop}
 use Rattle.std.proofs.Math.Option.{Option, some, none}
 use Rattle.std.proofs.Math.Seq.{append_snoc}
 use Rattle.plan.specs.declared.list.RefusedLine.{RefusedLine}
-use Rattle.plan.specs.declared.list.Stop.TheVariants.{AtLine, Nowhere}
 use Rattle.plan.specs.declared.refusal.Refusal.{Refusal}
 use Rattle.plan.specs.rules.Refusal.{number_of, first_refusal, refusal_number, Result, accepted, refused, unless}
 use Rattle.plan.specs.rules.Text.{line_feed}
@@ -133,7 +132,7 @@ stop-inside {text} {stop} stops =
     omega (arith, some_byte, ap length stops.starts, length-drop stop.at text)
 
 -- The line is told in one way: its number, its refusal's and where it starts.
-pub stop-one : {text : List ℕ} {one other : RefusedLine} → StopTold text (AtLine one) → StopTold text (AtLine other)
+pub stop-one : {text : List ℕ} {one other : RefusedLine} → StopTold text (Some one) → StopTold text (Some other)
     → (one.number ≡ other.number) × (number_of one.why ≡ number_of other.why) × (one.at ≡ other.at)
 stop-one {text} {one} {other} (at_a_line first) (at_a_line second) =
     let (line_same, number_same, rest-same) = first-refused-one first.first second.first in
@@ -144,5 +143,5 @@ stop-one {text} {one} {other} (at_a_line first) (at_a_line second) =
     )
 
 -- Where it stops at a line, not every line is accepted.
-pub stop-or-nowhere : {text : List ℕ} {stop : RefusedLine} → StopTold text (AtLine stop) → StopTold text Nowhere → ⊥
+pub stop-or-nowhere : {text : List ℕ} {stop : RefusedLine} → StopTold text (Some stop) → StopTold text None → ⊥
 stop-or-nowhere (at_a_line stops) (at_no_line reads) = refused-not-read stops.first (reads-are reads)

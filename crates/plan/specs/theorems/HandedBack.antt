@@ -1,7 +1,7 @@
 -- Document 01: "A plan is what these calls hand back, kept or copied but never patched by hand; a contract may ask that of the
 -- plan it gets, and every call is proved to keep it." What the contracts ask is exactly that.
 -- Assumes nothing.
-use Rattle.std.specs.Prelude.{◌≡◌, refl, List, [], ◌∷◌, ℕ, ◌+◌, ◌*◌, ◌≤◌, length, replicate}
+use Rattle.std.specs.Prelude.{◌≡◌, refl, List, [], ◌∷◌, ℕ, ◌+◌, ◌*◌, ◌≤◌, length, replicate, Ok}
 use Rattle.std.proofs.Common.{ap, ◌∙◌, subst, arith, length-append}
 use Rattle.std.proofs.Math.Option.{Option, some, none}
 use Rattle.std.proofs.lemmas.Bool.{eqb-false, not-false}
@@ -11,7 +11,6 @@ use Rattle.placing.specs.declared.way.Way.{Way}
 use Rattle.placing.specs.rules.Answer.{Answer, is_side}
 use Rattle.placing.specs.deciding.Answer.{chosen_at}
 use Rattle.placing.specs.theorems.Given.{chosen_is}
-use Rattle.plan.specs.declared.refusal.Outcome.TheVariants.{Done}
 use Rattle.plan.specs.declared.refusal.Refusal.{Refusal}
 use Rattle.plan.specs.declared.plan.Plan.{Plan}
 use Rattle.plan.specs.declared.plan.Planned.{Planned}
@@ -39,12 +38,12 @@ pub data HandedBack : Plan → Type 0 where
 -- ---- every valid plan is handed back
 
 -- "An empty text is a list of no sites."
-pub empty-read : read_from [] ≡ record { outcome = Done; plan = started }
+pub empty-read : read_from [] ≡ record { outcome = Ok tt; plan = started }
 unfolding read_list read_within
 empty-read = refl
 
 -- Reading the list of some sites gives their plan.
-pub list-planned : (sites : List Site) → Listed sites → read_from (list_text sites) ≡ record { outcome = Done; plan = unplaced_plan sites }
+pub list-planned : (sites : List Site) → Listed sites → read_from (list_text sites) ≡ record { outcome = Ok tt; plan = unplaced_plan sites }
 list-planned sites listed = ap (handed unplaced_plan started) (list_read sites listed)
 
 -- So it is handed back,
@@ -136,11 +135,11 @@ entered-more sites name x y is =
     ap length (entered-passed {sites = sites} {wanted = wanted_at name x y} is).1 ∙ length-append sites ((wanted_at name x y).site ∷ [])
 
 -- The count after an accepted entering is one more.
-pub entered-counted : (plan : Plan) (name : List ℕ) (x y : ℕ) → (entered_in plan name x y).outcome ≡ Done
+pub entered-counted : (plan : Plan) (name : List ℕ) (x y : ℕ) → (entered_in plan name x y).outcome ≡ Ok tt
     → counted (entered_in plan name x y).plan ≡ counted plan + 1
 entered-counted plan name x y = by-sites (entered (sites_in plan) (wanted_at name x y)) refl
   where
-    by-sites : (sites : Result (List Site)) → entered (sites_in plan) (wanted_at name x y) ≡ sites → (handed unplaced_plan plan sites).outcome ≡ Done
+    by-sites : (sites : Result (List Site)) → entered (sites_in plan) (wanted_at name x y) ≡ sites → (handed unplaced_plan plan sites).outcome ≡ Ok tt
         → counted (handed unplaced_plan plan sites).plan ≡ counted plan + 1
     by-sites (refused why) is done = let z : ◌≡◌ {A = ℕ} 0 1 = cc in absurd (omega arith)
     by-sites (accepted more) is done = ap length (sites-unplaced more) ∙ entered-more (sites_in plan) name x y is

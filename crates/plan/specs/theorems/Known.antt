@@ -2,7 +2,7 @@
 -- table with a theorem over the rows: what the calls of starting, entering, finding and choosing lead to. Each row is tested by entering its
 -- sites and by the pruned search, which the checker computes, so that a row more needs no proof.
 -- Assumes nothing.
-use Rattle.std.specs.Prelude.{◌≡◌, Bool, true, false, ◌&&◌, ℕ, suc, ◌+◌, ◌*◌, ◌≤◌, T, eqb, length}
+use Rattle.std.specs.Prelude.{◌≡◌, Bool, true, false, ◌&&◌, ℕ, suc, ◌+◌, ◌*◌, ◌≤◌, T, eqb, length, Ok, Err}
 use Rattle.std.proofs.Math.Path.{refl, ap}
 use Rattle.std.proofs.Common.{sym, ◌∙◌, subst, ⊎_elim, mul-le-mul, arith, lit≤}
 use Rattle.std.proofs.Math.Bool.{not}
@@ -23,12 +23,8 @@ use Rattle.placing.specs.theorems.FactorTwo.{meeting-larger}
 use Rattle.placing.specs.theorems.Given.{chosen_is}
 use Rattle.placing.specs.theorems.PrunedSearch.{pruned_first}
 use Rattle.placing.specs.theorems.CheckedAnswer.{equal_test, equal-decides, pruned-same, checked_test, checked-right, passed, both-passed}
-use Rattle.plan.specs.declared.refusal.Outcome.TheVariants.{Done, Refused}
-use Rattle.plan.specs.declared.refusal.Outcome.{Outcome}
 use Rattle.plan.specs.declared.refusal.Refusal.{Refusal}
 use Rattle.plan.specs.declared.refusal.Refusal.TheVariants.{BadNumber, NoSites, NoGoodChoice}
-use Rattle.plan.specs.declared.plan.AskedSide.{AskedSide}
-use Rattle.plan.specs.declared.plan.AskedSide.TheVariants.{SideIs, NoSide}
 use Rattle.plan.specs.declared.plan.Plan.{Plan}
 use Rattle.plan.specs.declared.plan.Planned.{Planned}
 use Rattle.plan.specs.rules.Refusal.{number_of, Test, ◌gives◌, Result, accepted, refused, after_tests}
@@ -37,7 +33,7 @@ use Rattle.plan.specs.rules.List.{Site, place_at, places_of, Listed, entered, wa
 use Rattle.plan.specs.rules.Calls.{outside, no_sites, no_good}
 use Rattle.plan.specs.deciding.Output.{exists_at}
 use Rattle.plan.specs.calls.Plan.{unplaced_plan, placed_with}
-use Rattle.plan.specs.calls.Answers.{started, handed, entered_in, side_answer, found_in, chosen_in}
+use Rattle.plan.specs.calls.Answers.{started, handed, entered_in, side_answer, found_in, chosen_in, Outcome, AskedSide}
 use Rattle.plan.specs.theorems.Sites.{listed-none}
 use Rattle.plan.specs.theorems.Entering.{entered-listed}
 use Rattle.plan.specs.theorems.Sheet.{answer-listed}
@@ -189,8 +185,8 @@ rows_apart = refl
 
 -- What follows a step: nothing where it is refused.
 abbrev pub after_step : (Plan → End) → ℕ → Outcome → Plan → End
-after_step next i Done plan = next plan
-after_step next i (Refused why) plan = refused_at i (number_of why)
+after_step next i (Ok done) plan = next plan
+after_step next i (Err why) plan = refused_at i (number_of why)
 
 -- The same of what a call hands back.
 abbrev pub onward : (Plan → End) → ℕ → Planned → End
@@ -201,8 +197,8 @@ abbrev pub chosen_end : List ℕ → ℕ → Plan → Way → Side → End
 chosen_end table i plan way side = onward (λ end. answered (answer_in end)) i (chosen_in plan way side table)
 
 abbrev pub found_end : List ℕ → ℕ → Plan → Way → AskedSide → End
-found_end table i plan way (SideIs side) = chosen_end table i plan way side
-found_end table i plan way (NoSide why) = refused_at i (number_of why)
+found_end table i plan way (Ok side) = chosen_end table i plan way side
+found_end table i plan way (Err why) = refused_at i (number_of why)
 
 -- Placing at a side, where one is given, else at the one that is found. Each call is lent a table of this length.
 abbrev pub placed_end : List ℕ → ℕ → Plan → Way → Option Side → End

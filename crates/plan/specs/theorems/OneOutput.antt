@@ -17,11 +17,8 @@ use Rattle.plan.specs.rules.List.{Site, places_of, list_text, end, enter_tests, 
 use Rattle.plan.specs.rules.Sheet.{sheet_with, side_on, refusal_line, carried}
 use Rattle.plan.specs.rules.Calls.{finding_tests, choosing_tests, side_tests, corner_tests, write_tests, cleared}
 use Rattle.plan.specs.deciding.Output.{output_of, exists_at, output_at}
-use Rattle.plan.specs.declared.plan.AskedSide.{AskedSide}
-use Rattle.plan.specs.declared.plan.AskedCorner.{AskedCorner}
-use Rattle.plan.specs.declared.plan.Written.{Written}
 use Rattle.plan.specs.calls.Plan.{unplaced_plan, placed_with, placed_plan, sites_in}
-use Rattle.plan.specs.calls.Answers.{outcome_number, side_asked_number, corner_asked_number, written_number, sheet_for}
+use Rattle.plan.specs.calls.Answers.{outcome_number, side_asked_number, corner_asked_number, written_number, sheet_for, AskedSide, AskedCorner, Written}
 use Rattle.plan.specs.Demands.{Refuses, ChooseTold, Accepts, ListRefused, at_line, of_no_sites, RightSheet, SheetFor, Answered, is_refusal_line, list_sheet}
 use Rattle.plan.specs.Demands.{EnterTold, SideTold, CornerTold, WriteTold, ReadTold, read_refused, read_all}
 use Rattle.plan.specs.Demands.{FindTold, ListTold, list_refused, list_is_placed, ListToldAt, is_refused_at, list_is_placed_at}

@@ -1,4 +1,5 @@
 -- `choose_at` meets its contract, test by test: the plan holds its sites, whose first choice at the side is found. Assumes nothing.
+use Rattle.std.specs.Prelude.{Ok}
 use mathlib.Core.Path.{◌≡◌, sym, ap, ◌∙◌}
 use mathlib.Core.Bool.{true}
 use native.Mathlib.Omega.{arith}
@@ -8,7 +9,6 @@ use Rattle.placing.specs.rules.Answer.{is_side}
 use Rattle.placing.specs.theorems.Given.{judged-range}
 use Rattle.plan.specs.declared.plan.Plan.{Plan}
 use Rattle.plan.specs.declared.plan.Planned.{Planned}
-use Rattle.plan.specs.declared.refusal.Outcome.TheVariants.{Done}
 use Rattle.plan.specs.theorems.Plan.{valid-holding}
 use Rattle.plan.specs.code.Entering.{outcome-refused, outcome-done}
 use Rattle.plan.specs.code.PlanLaws.{holding-ready, holding-placed, holding-exists}
@@ -30,13 +30,13 @@ pub unready-failed-requires : goal.unready-failed-requires
 unready-failed-requires c =
     let holding = valid-holding c.requires in omega (arith, holding.count, holding.listed.few)
 
-pub returns-in-Refused : goal.returns-in-Refused
-returns-in-Refused c =
+pub returns-in-Err : goal.returns-in-Err
+returns-in-Err c =
     let given : is_side c.args.side ≡ true =
     sym c.is_side.ensures ∙ c.if-not-is_side.false in
     let told = choose-refuses c.requires c.args.way c.args.side c.args.table.now
-    (given-first c.args.side c.args.plan.count (length c.args.table.now) given (outcome-refused _ (sym c.unready-failed.ensures ∙ c.in-Refused.is)))
-    c.refuse-in-Refused.ensures in
+    (given-first c.args.side c.args.plan.count (length c.args.table.now) given (outcome-refused _ (sym c.unready-failed.ensures ∙ c.in-Err.is)))
+    c.refuse-in-Err.ensures in
     record {
       answer = told.0;
       table = told.1.0;
@@ -80,7 +80,7 @@ returns c =
     let told = choose-accepts c.requires c.args.way c.args.side c.args.table.now
     (given-first c.args.side c.args.plan.count (length c.args.table.now) given ready)
     c.choose_corners-choice.ensures.table there given (holding-ready holding c.args.table.now ready).some_sites
-    (ap {B = Planned} (λ (p : Plan). record { outcome = Done; plan = p })
+    (ap {B = Planned} (λ (p : Plan). record { outcome = Ok tt; plan = p })
     (holding-placed holding c.args.way c.args.side c.choose_corners-choice.result c.choose_corners-choice.ensures.first c.placed_at.ensures)) in
     record {
       answer = told.0;

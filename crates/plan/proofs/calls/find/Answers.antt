@@ -14,9 +14,9 @@ pub unready-failed-requires : goal.unready-failed-requires
 unready-failed-requires c =
     let holding = valid-holding c.requires in omega (arith, holding.count, holding.listed.few)
 
-pub returns-in-Refused : goal.returns-in-Refused
-returns-in-Refused c =
-    let told = find-refuses c.args.plan c.args.way c.args.table.now (outcome-refused _ (sym c.unready-failed.ensures ∙ c.in-Refused.is)) in
+pub returns-in-Err : goal.returns-in-Err
+returns-in-Err c =
+    let told = find-refuses c.args.plan c.args.way c.args.table.now (outcome-refused _ (sym c.unready-failed.ensures ∙ c.in-Err.is)) in
     record {
       answer = told.0;
       table = told.1.0;

@@ -3,10 +3,10 @@ use Rattle.plan.specs.code.Reading.{lines-refused, lines-done}
 use Rattle.plan.specs.theorems.Reading.{read_told}
 use Rattle.plan.proofs.list.read.Goals as goal
 
-pub returns-in-Refused : goal.returns-in-Refused
-returns-in-Refused c =
+pub returns-in-Err : goal.returns-in-Err
+returns-in-Err c =
     let told = read_told _
-    (lines-refused c.read_lines-lines.ensures c.in-Refused.is (c.start.ensures.answer, c.start.ensures.valid) c.refuse.ensures) in
+    (lines-refused c.read_lines-lines.ensures c.in-Err.is (c.start.ensures.answer, c.start.ensures.valid) c.refuse.ensures) in
     record { answer = told.0; valid = told.1.0; told = told.1.1 }
 
 pub returns : goal.returns

@@ -20,10 +20,10 @@ pub line_outcome-outcome-requires : goal.line_outcome-outcome-requires
 line_outcome-outcome-requires c =
     (reading-valid c.loop-at.invariant, c.read_line-line.ensures.fits)
 
-pub returns-in-Refused : goal.returns-in-Refused
-returns-in-Refused c =
-    reading-refused c.loop-at.invariant c.in-At.ensures c.read_line-line.ensures c.line_outcome-outcome.ensures c.in-Refused.is
-    c.stopped-in-Refused.ensures
+pub returns-in-Err : goal.returns-in-Err
+returns-in-Err c =
+    reading-refused c.loop-at.invariant c.in-At.ensures c.read_line-line.ensures c.line_outcome-outcome.ensures c.in-Err.is
+    c.stopped-in-Err.ensures
 
 -- A line is accepted: there is room for its site.
 room : (c : In_default-outcome) → c.loop-at.plan.count < most_sites

@@ -13,4 +13,4 @@ overflow_add-result c =
 
 pub returns : goal.returns
 returns c =
-    lines-stop c.read_lines-lines.ensures c.in-Refused.is
+    lines-stop c.read_lines-lines.ensures c.in-Err.is

@@ -19,35 +19,35 @@ lent = replicate full_table 0
 lent-size : length lent ≡ full_table
 lent-size = length-replicate {A = ℕ} full_table 0
 
-pub returns-in-Refused : goal.returns-in-Refused
-returns-in-Refused c =
+pub returns-in-Err : goal.returns-in-Err
+returns-in-Err c =
     let args = c.args in
-    let refused = reading-refused args.way args.text.now c.read-listed.ensures.answer c.in-Refused.is in
+    let refused = reading-refused args.way args.text.now c.read-listed.ensures.answer c.in-Err.is in
     record {
       answer = refused;
       valid = c.read-listed.ensures.valid;
       told = list-told args.way args.text.now refused;
     }
 
-pub returns-in-SideIs : goal.returns-in-SideIs
-returns-in-SideIs c =
+pub returns-in-Ok : goal.returns-in-Ok
+returns-in-Ok c =
     let args = c.args in
     let text = args.text.now in
     let placed = reading-placed args.way text lent lent-size c.find-found.new.table (search rules)
-    c.read-listed.ensures.answer c.in_default.is (sym c.in-SideIs.is ∙ c.find-found.ensures.answer) c.choose_at.ensures.answer in
+    c.read-listed.ensures.answer c.in_default.is (sym c.in-Ok.is ∙ c.find-found.ensures.answer) c.choose_at.ensures.answer in
     record {
       answer = placed;
       valid = c.choose_at.ensures.valid;
       told = list-told args.way text placed;
     }
 
-pub returns-in-NoSide : goal.returns-in-NoSide
-returns-in-NoSide c =
+pub returns-in-Err-found : goal.returns-in-Err-found
+returns-in-Err-found c =
     let args = c.args in
     let text = args.text.now in
     let refused = c.refuse.ensures
     ∙ reading-unfound args.way text lent lent-size
-    c.read-listed.ensures.answer c.in_default.is (sym c.in-NoSide.is ∙ c.find-found.ensures.answer) in
+    c.read-listed.ensures.answer c.in_default.is (sym c.in-Err-found.is ∙ c.find-found.ensures.answer) in
     record {
       answer = refused;
       valid = subst (λ (p : Planned). Valid p.plan) (sym c.refuse.ensures) c.read-listed.ensures.valid;

@@ -25,28 +25,28 @@ returns-then-not-is_side c =
       told = list-told-at c.args.way c.args.side text refused;
     }
 
-pub returns-in-Refused : goal.returns-in-Refused
-returns-in-Refused c =
+pub returns-in-Err : goal.returns-in-Err
+returns-in-Err c =
     let given : is_side c.args.side ≡ true =
     sym c.is_side.ensures ∙ c.if-not-is_side.false in
     let text = c.args.text.now in
-    let refused = reading-refused-at c.args.way c.args.side given text c.read-listed.ensures.answer c.in-Refused.is in
+    let refused = reading-refused-at c.args.way c.args.side given text c.read-listed.ensures.answer c.in-Err.is in
     record {
       answer = refused;
       valid = c.read-listed.ensures.valid;
       told = list-told-at c.args.way c.args.side text refused;
     }
 
-pub returns-in-Refused-choosing : goal.returns-in-Refused-choosing
-returns-in-Refused-choosing c =
+pub returns-in-Err-choosing : goal.returns-in-Err-choosing
+returns-in-Err-choosing c =
     let given : is_side c.args.side ≡ true =
     sym c.is_side.ensures ∙ c.if-not-is_side.false in
     let text = c.args.text.now in
-    let refused = c.refuse-in-Refused-choosing.ensures ∙ ap (λ (p : Plan). refusal-of p c.in-Refused-choosing.why) c.start-in-Refused-choosing.ensures.answer
+    let refused = c.refuse-in-Err-choosing.ensures ∙ ap (λ (p : Plan). refusal-of p c.in-Err-choosing.why) c.start-in-Err-choosing.ensures.answer
     ∙ choosing-refused c.args.way c.args.side given text (replicate full_table 0) (length-replicate {A = ℕ} full_table 0)
-    c.read-listed.ensures.answer c.in_default.is c.choose_at-placed.ensures.answer c.in-Refused-choosing.is in record {
+    c.read-listed.ensures.answer c.in_default.is c.choose_at-placed.ensures.answer c.in-Err-choosing.is in record {
       answer = refused;
-      valid = subst (λ (p : Planned). Valid p.plan) (sym c.refuse-in-Refused-choosing.ensures) c.start-in-Refused-choosing.ensures.valid;
+      valid = subst (λ (p : Planned). Valid p.plan) (sym c.refuse-in-Err-choosing.ensures) c.start-in-Err-choosing.ensures.valid;
       told = list-told-at c.args.way c.args.side text refused;
     }
 

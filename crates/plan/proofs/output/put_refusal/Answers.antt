@@ -16,17 +16,17 @@ number_fits why same = rw same (number_short why)
 -- So behind the word there is room for the number and the line feed,
 pub put_decimal-digits-requires : goal.put_decimal-digits-requires
 put_decimal-digits-requires c =
-    let fits = number_fits c.args.why c.number_of-number.ensures in
+    let fits = number_fits c.args.why c.from-number.ensures in
     omega (arith, put-room c.put_bytes-word.ensures 8 (most_digits + 1) (omega arith) (omega arith))
 
 -- and the line feed is one byte.
 pub put_byte-requires : goal.put_byte-requires
 put_byte-requires c =
-    let fits = number_fits c.args.why c.number_of-number.ensures in
+    let fits = number_fits c.args.why c.from-number.ensures in
     let room = put-room c.put_bytes-word.ensures 8 (most_digits + 1) (omega arith) (omega arith) in
     omega (arith, put-room c.put_decimal-digits.ensures most_digits 1 fits room)
 
 pub returns : goal.returns
 returns c =
     put_same (put_then c.put_bytes-word.ensures (put_then c.put_decimal-digits.ensures c.put_byte.ensures))
-    (rw c.number_of-number.ensures (simp append_assoc))
+    (rw c.from-number.ensures (simp append_assoc))

@@ -13,11 +13,11 @@ use Rattle.plan.specs.code.CallLaws.{refuses, accepts}
 use Rattle.plan.specs.code.Entering.{wanted_read, outcome-refuses, outcome-none, read-rules}
 use Rattle.plan.proofs.plan.enter_read.Goals as goal
 
-pub returns-in-Refused : goal.returns-in-Refused
-returns-in-Refused c =
+pub returns-in-Err : goal.returns-in-Err
+returns-in-Err c =
     let told = refuses c.requires.0 c.refuse.ensures
     (outcome-refuses (enter_tests (sites_in c.args.plan) (wanted_read c.args.name c.args.place))
-    c.enter_outcome-outcome.ensures _ c.in-Refused.is) in
+    c.enter_outcome-outcome.ensures _ c.in-Err.is) in
     record {
       answer = told.0;
       valid = told.1;

@@ -45,8 +45,10 @@ fn is_name_byte(b: u8) -> bool
 fn is_name(text: &[u8]) -> bool
     ensures { result ≡ is_name text.now }
 {
-    let n = text.len();
-    1 <= n && n <= Name::LONGEST && text.iter().all(|b| is_name_byte(*b))
+    if text.is_empty() || text.len() > Name::LONGEST {
+        return false;
+    }
+    text.iter().all(|b| is_name_byte(*b))
 }
 
 // The name that a text is, if it is one.

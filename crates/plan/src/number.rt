@@ -57,10 +57,13 @@ fn number_from(text: &[u8], most: u32) -> Option<u32>
     requires { most ≤ greatest_side }
     ensures { result ≡ number_read most (number_in text.now) }
 {
-    match text {
-        [] | [b'0', _, ..] => None,
-        _ => digits_from(text, most),
+    if text.is_empty() {
+        return None;
     }
+    if text.len() > 1 && text[0] == b'0' {
+        return None;
+    }
+    digits_from(text, most)
 }
 
 // The coordinate that a text writes, in decimal digits with no leading zero.
@@ -77,7 +80,7 @@ pub fn side_from(text: &[u8]) -> Side
     ensures side { result ≡ side_by_word (side_in text.now) }
     ensures value { side_number result ≡ side_number (side_by_word (side_in text.now)) }
 {
-    if text == b"free" {
+    if text == b"free".as_slice() {
         return Side::Free;
     }
     let n = number_from(text, Limits::GREATEST_SIDE).unwrap_or(0);

@@ -1,18 +1,13 @@
 // A plan: the sites of one level in list order and, once it is placed, the way, its side and corners.
-ghost use Rattle.std.specs.Prelude.{◌≡◌, ◌≤◌};
+ghost use Rattle.std.specs.Prelude.{◌≡◌, ◌+◌, ◌<◌, set};
 ghost use Rattle.placing.specs.rules.Units.{most_sites};
-ghost use Rattle.placing.specs.deciding.Tests.{same_place};
-ghost use Rattle.plan.specs.rules.Refusal.{first_refusal};
-ghost use Rattle.plan.specs.rules.List.{enter_tests, entered};
-ghost use Rattle.plan.specs.calls.Plan.{unplaced_plan, name_held, sites_in, Valid};
+ghost use Rattle.plan.specs.rules.List.{entered};
+ghost use Rattle.plan.specs.calls.Plan.{unplaced_plan, sites_in, Valid};
 ghost use Rattle.plan.specs.calls.Answers.{started, handed};
-ghost use Rattle.plan.specs.code.NameRead.{Padded};
 ghost use Rattle.plan.specs.code.PlanLaws.{unplaced_of, placed_of};
-ghost use Rattle.plan.specs.code.Taken.{PaddedNames, names_taken, places_taken};
-ghost use Rattle.plan.specs.code.Entering.{NameFits, PlaceFits, wanted_read, outcome_of, rows};
+ghost use Rattle.plan.specs.code.Entering.{SiteFits, wanted_read, admitted};
 
-use crate::name::{Name, NameRead, same_name};
-use crate::number::PlaceRead;
+use crate::name::Name;
 use crate::refusal::Refusal;
 use placing::units::{Limits, Place, Side, Units};
 use placing::way::Way;
@@ -35,6 +30,13 @@ pub struct Plan {
 pub struct Planned {
     pub outcome: Result<(), Refusal>,
     pub plan: Plan,
+}
+
+// A name and a place to be entered, as they were read: none where they are not by the rules.
+#[derive(Clone, Copy)]
+pub(crate) struct SiteRead {
+    pub name: Option<Name>,
+    pub place: Option<Place>,
 }
 
 impl Plan {
@@ -92,105 +94,50 @@ pub(crate) fn refuse(plan: Plan, why: Refusal) -> Planned
     Planned { outcome, plan }
 }
 
-// Whether one of the first `n` names is this one.
-fn name_taken(names: [Name; Limits::SITES], n: usize, name: Name) -> bool
-    requires { (n ≤ most_sites) × PaddedNames n names × Padded name }
-    ensures { result ≡ names_taken n names (name_held name) }
-{
-    for i in 0..n {
-        let other = names[i];
-        if same_name(other, name) {
-            return true;
+impl Plan {
+    // The name and the place that were read, where they can be entered: tests 2, 3, 7, 4, 5.
+    fn admit(&self, site: SiteRead) -> Result<(Name, Place), Refusal>
+        requires { Valid self.now × SiteFits site }
+        ensures { result ≡ admitted (sites_in self.now) site }
+    {
+        let name = site.name.ok_or(Refusal::BadName)?;
+        let place = site.place.ok_or(Refusal::BadNumber)?;
+        let n = self.count;
+        if n >= Limits::SITES {
+            return Err(Refusal::Full);
         }
-    }
-    false
-}
-
-// Whether two places are the same.
-fn same_place(a: Place, b: Place) -> bool
-    ensures { result ≡ same_place a b }
-{
-    if a.x.0 != b.x.0 {
-        return false;
-    }
-    a.y.0 == b.y.0
-}
-
-// Whether one of the first `n` places is this one.
-fn place_taken(places: [Place; Limits::SITES], n: usize, place: Place) -> bool
-    requires { n ≤ most_sites }
-    ensures { result ≡ places_taken n places place }
-{
-    for i in 0..n {
-        let other = places[i];
-        if same_place(other, place) {
-            return true;
+        if self.names[..n].contains(&name) {
+            return Err(Refusal::NameTaken);
         }
+        if self.places[..n].contains(&place) {
+            return Err(Refusal::PlaceTaken);
+        }
+        Ok((name, place))
     }
-    false
-}
 
-// The order of document 01's tests, 2, 3, 7, 4, 5, over which of them fail.
-fn first_failed(
-    unnamed: bool,
-    outside: bool,
-    full: bool,
-    named: bool,
-    placed: bool,
-) -> Result<(), Refusal>
-    ensures { result ≡ outcome_of (first_refusal (rows unnamed outside full named placed)) }
-{
-    if unnamed {
-        return Err(Refusal::BadName);
+    // Puts a site at the end. The plan is not placed afterwards.
+    fn push(&mut self, name: Name, place: Place)
+        requires { self.old.count < most_sites }
+        ensures { self.new ≡ unplaced_of (self.old.count + 1) (set self.old.names self.old.count name) (set self.old.places self.old.count place) }
+    {
+        let n = self.count;
+        self.names[n] = name;
+        self.places[n] = place;
+        self.count = n + 1;
+        self.placed = false;
+        self.way = Way::Usual;
+        self.side = Side::Free;
+        self.corners = [0u8; Limits::SITES];
     }
-    if outside {
-        return Err(Refusal::BadNumber);
-    }
-    if full {
-        return Err(Refusal::Full);
-    }
-    if named {
-        return Err(Refusal::NameTaken);
-    }
-    if placed {
-        return Err(Refusal::PlaceTaken);
-    }
-    Ok(())
-}
 
-// What the tests of entering a name and a place, as they were read, come to.
-pub(crate) fn enter_outcome(plan: Plan, name: NameRead, place: PlaceRead) -> Result<(), Refusal>
-    requires { Valid plan × NameFits name }
-    ensures { result ≡ outcome_of (first_refusal (enter_tests (sites_in plan) (wanted_read name place))) }
-{
-    let n = plan.count;
-    let names = plan.names;
-    let places = plan.places;
-    let named = name_taken(names, n, name.name);
-    let placed = place_taken(places, n, place.place);
-    first_failed(!name.ok, !place.ok, n >= Limits::SITES, named, placed)
-}
-
-// The plan with one site more, whose name and place were read. The plan is not placed afterwards.
-pub(crate) fn enter_read(plan: Plan, name: NameRead, place: PlaceRead) -> Planned
-    requires { Valid plan × NameFits name × PlaceFits place }
-    ensures answer { result ≡ handed unplaced_plan plan (entered (sites_in plan) (wanted_read name place)) }
-    ensures valid { Valid result.plan }
-{
-    let outcome = enter_outcome(plan, name, place);
-    if let Err(why) = outcome {
-        return refuse(plan, why);
-    }
-    let n = plan.count;
-    let mut names = plan.names;
-    let mut places = plan.places;
-    let called = name.name;
-    let spot = place.place;
-    names[n] = called;
-    places[n] = spot;
-    let more = Plan::unplaced(n + 1, names, places);
-    Planned {
-        outcome: Ok(()),
-        plan: more,
+    // Enters a site that was read at the end, or refuses it and stays as it is.
+    pub(crate) fn enter_read(&mut self, site: SiteRead) -> Result<(), Refusal>
+        requires { Valid self.old × SiteFits site }
+        ensures answer { record { outcome = result; plan = self.new } ≡ handed unplaced_plan self.old (entered (sites_in self.old) (wanted_read site)) }
+        ensures valid { Valid self.new }
+    {
+        let (name, place) = self.admit(site)?;
+        self.push(name, place);
+        Ok(())
     }
 }

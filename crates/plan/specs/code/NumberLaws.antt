@@ -1,6 +1,7 @@
 -- Reading a number byte by byte.
 -- Assumes nothing.
 use Rattle.std.specs.Prelude.{Bool, ◌&&◌, ◌≢◌, ◌≡◌, ℕ, zero, suc, ◌+◌, ◌-◌, ◌*◌, ◌≤◌, ◌<◌, length, get_or, drop, Option, Some, None}
+use Rattle.std.specs.Bool.{then_some}
 use Rattle.std.proofs.Math.Bool.{true, false}
 use mathlib.Core.List.{List, [], ◌∷◌}
 use Rattle.std.proofs.Math.Option as maybe
@@ -15,20 +16,6 @@ use Rattle.plan.specs.rules.Text.{same_bytes, zero_digit, digits_after, number_i
 use Rattle.plan.specs.rules.Sheet.{free_word, numbered_side, side_in}
 use Rattle.plan.specs.calls.Given.{side_by_word, coordinate_read}
 use Rattle.plan.specs.code.NumberRead.{number_read, coordinate_of, side_of}
-
--- A digit is appended,
-digit-last : (n b : ℕ) → zero_digit ≤ b → b ≤ 57 → digits_after n (b ∷ []) ≡ some (n * 10 + (b - zero_digit))
-unfolding digits_after
-digit-last n b low high = rw (le-leb zero_digit b low, le-leb b 57 high, digits_after)
-
--- and a byte that is no digit writes no number.
-pub low-none : (n b : ℕ) → b < zero_digit → digits_after n (b ∷ []) ≡ none
-unfolding digits_after
-low-none n b low = rw (lt-leb zero_digit b low, digits_after)
-
-pub high-none : (n b : ℕ) → 57 < b → digits_after n (b ∷ []) ≡ none
-unfolding digits_after
-high-none n b high = rw (le-leb zero_digit b (omega arith), lt-leb b 57 high, digits_after)
 
 -- Numbers up to `most`.
 module _ (most : ℕ) where
@@ -47,14 +34,21 @@ module _ (most : ℕ) where
       by-test true fits is = let same : m ≡ n = cc in omega (arith, leb-true m most fits)
       by-test false far is = let z : ◌≡◌ {A = ℕ} 0 1 = cc in absurd (omega arith)
 
-  -- So it is with one digit more.
-  pub digit-in : (n b : ℕ) → zero_digit ≤ b → b ≤ 57 → n * 10 + (b - zero_digit) ≤ most
-      → number_read most (digits_after n (b ∷ [])) ≡ Some (n * 10 + (b - zero_digit))
-  digit-in n b low high fits = ap (number_read most) (digit-last n b low high) ∙ number-in (n * 10 + (b - zero_digit)) fits
+  -- A digit is appended where the number stays in range, and a byte that is no digit writes no number.
+  pub digit-read : (n b : ℕ) {is : Bool} → (leb zero_digit b && leb b 57) ≡ is
+      → number_read most (digits_after n (b ∷ []))
+      ≡ elim is [ true ↦ then_some (leb (n * 10 + (b - zero_digit)) most) (n * 10 + (b - zero_digit)) | false ↦ None ]
+  unfolding digits_after
+  digit-read n b e = rw (← e) (by-digit (leb zero_digit b && leb b 57))
+    where
+      in_range : (t : Bool) → elim t [ true ↦ Some (n * 10 + (b - zero_digit)) | false ↦ None ] ≡ then_some t (n * 10 + (b - zero_digit))
+      in_range true = refl
+      in_range false = refl
 
-  pub digit-beyond : (n b : ℕ) → zero_digit ≤ b → b ≤ 57 → most < n * 10 + (b - zero_digit)
-      → number_read most (digits_after n (b ∷ [])) ≡ None
-  digit-beyond n b low high far = ap (number_read most) (digit-last n b low high) ∙ number-beyond (n * 10 + (b - zero_digit)) far
+      by-digit : (digit : Bool) → number_read most (elim digit [ true ↦ some (n * 10 + (b - zero_digit)) | false ↦ none ])
+          ≡ elim digit [ true ↦ then_some (leb (n * 10 + (b - zero_digit)) most) (n * 10 + (b - zero_digit)) | false ↦ None ]
+      by-digit true = in_range (leb (n * 10 + (b - zero_digit)) most)
+      by-digit false = refl
 
   -- A number that is out of range stays so, whatever is appended.
   beyond-stays : (n : ℕ) (text : List ℕ) → most < n → number_read most (digits_after n text) ≡ None

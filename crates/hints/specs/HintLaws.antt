@@ -1,7 +1,7 @@
 -- Every hint names something for which a line is refused: a line that is accepted has none, so that one with a hint is refused whatever
 -- the sites before it are.
 -- Assumes nothing.
-use Rattle.std.specs.Prelude.{◌≡◌, Bool, false, ◌&&◌, ◌||◌, List, [], ◌∷◌, ◌++◌, ◌≢◌, ℕ, ◌+◌, ◌≤◌, ◌<◌, eqb, leb, length, get_or}
+use Rattle.std.specs.Prelude.{◌≡◌, Bool, false, ◌&&◌, ◌||◌, List, [], ◌∷◌, ◌++◌, ◌≢◌, ℕ, ◌+◌, ◌≤◌, ◌<◌, eqb, leb, length, get_or, None}
 use Rattle.std.proofs.Math.Path.{refl, ap}
 use Rattle.std.proofs.Common.{sym, ◌∙◌, subst, append_assoc, arith, length-append, leb-true, le-leb, ne_eqb}
 use Rattle.std.proofs.Math.Bool.{true, and-false, or-true}
@@ -17,8 +17,7 @@ use Rattle.plan.specs.theorems.Text.{and_both, decimal-writes}
 use Rattle.plan.specs.theorems.Tables.{rest-none, unless-accepted}
 use Rattle.plan.specs.theorems.Entering.{Passed, tests-passed}
 use Rattle.plan.specs.theorems.Reading.{entered-line}
-use Rattle.hints.specs.declared.Hint.TheVariants.{NoHint}
-use Rattle.hints.specs.Hint.{within, has, has_separator, ends_in, starts_with, starts_with_mark, lacks_feed, is_heading, hint_of}
+use Rattle.hints.specs.Hint.{within, has, has_separator, ends_in, starts_with, starts_with_mark, is_heading, hint_of}
 use Rattle.hints.specs.TestLaws.{ends-behind}
 
 -- ---- the bytes of an accepted line
@@ -165,7 +164,6 @@ has-behind low high (a ∷ front) b least most = rw (has-behind low high front b
 -- The tests of the table, and so the table.
 module _ {bytes : List ℕ} (of : LineBytes bytes) where
   no-mark : starts_with_mark bytes ≡ false
-  unfolding starts_with_mark
   no-mark =
       rw (
         starts-not 239 (187 ∷ 191 ∷ []) bytes refl of.all,
@@ -182,18 +180,15 @@ module _ {bytes : List ℕ} (of : LineBytes bytes) where
       ∙ ne_eqb of.ends.digit last (omega (arith, of.ends.least))
 
   no-heading : (number : ℕ) → is_heading number bytes ≡ false
-  unfolding is_heading
   no-heading number =
       let some-digit : has 48 57 bytes ≡ true =
       ap (has 48 57) of.ends.parts ∙ has-behind 48 57 of.ends.front of.ends.digit of.ends.least of.ends.most in
       rw some-digit (and-false (eqb number 1))
 
   no-separator : has_separator bytes ≡ false
-  unfolding has_separator
   no-separator = rw (has-not 32 refl bytes of.all, has-not 44 refl bytes of.all, has-not 59 refl bytes of.all)
 
-bytes-no-hint : (number : ℕ) (line : TextLine) → LineBytes line.bytes → line.ended ≡ true → hint_of number line ≡ NoHint
-unfolding lacks_feed
+bytes-no-hint : (number : ℕ) (line : TextLine) → LineBytes line.bytes → line.ended ≡ true → hint_of number line ≡ None
 bytes-no-hint number line of ended =
     rw (
       no-mark of,
@@ -225,12 +220,12 @@ accepted-bytes sites line is =
 
 -- A line that is accepted has no hint, whatever its number is.
 pub accepted-no-hint : (sites : List Site) (line : TextLine) {next : List Site} → line_entered sites line ≡ accepted next → (number : ℕ)
-    → hint_of number line ≡ NoHint
+    → hint_of number line ≡ None
 accepted-no-hint sites line is number =
     bytes-no-hint number line (accepted-bytes sites line is) (entered-line {sites = sites} {line = line} is).ended
 
 -- So a line with a hint is refused, whatever the sites before it are.
-pub hint-refused : (number : ℕ) (line : TextLine) → hint_of number line ≢ NoHint → (sites : List Site)
+pub hint-refused : (number : ℕ) (line : TextLine) → hint_of number line ≢ None → (sites : List Site)
     → (why : Refusal) × (line_entered sites line ≡ refused why)
 hint-refused number line some-hint sites = by_result (line_entered sites line) refl
   where

@@ -1,38 +1,40 @@
 -- The tests of a line as the functions make them: byte by byte, and one after another.
 -- Assumes nothing.
-use Rattle.std.specs.Prelude.{◌≡◌, refl, Bool, true, false, ◌&&◌, ◌||◌, List, [], ◌∷◌, ◌++◌, ◌≢◌, ℕ, suc, ◌+◌, ◌≤◌, ◌<◌, eqb, ltb, length, get_or, take, drop}
-use Rattle.std.proofs.Common.{sym, ap, ap₂, ◌∙◌, add-one, arith, length-append, drop_of_length-le, take-suc}
-use Rattle.std.proofs.Math.Bool.{and-false}
-use Rattle.std.proofs.Math.Seq.{drop-cons, take-length, take-append_seam}
-use borrow.Author.Tests.{ne_eqb, lt-ltb, le-ltb}
+use Rattle.std.specs.Prelude.{map, ◌≡◌, refl, Bool, true, false, ◌&&◌, ◌||◌, List, [], ◌∷◌, ◌++◌, ◌≢◌, ℕ, zero, suc, ◌+◌, ◌-◌, ◌≤◌, eqb, ltb, length, take, drop}
+use Rattle.std.proofs.Common.{sym, ap, ap₂, ◌∙◌, add-one, arith, length-append}
+use Rattle.std.proofs.Math.Seq.{take-length, take-append_seam}
+use Rattle.std.proofs.lemmas.Bool.{eqb-true, eqb-false}
+use Rattle.std.proofs.Math.Bool.{and-true}
+use borrow.Author.Tests.{eq-eqb, ne_eqb, lt-ltb, le-ltb}
 use Rattle.plan.specs.rules.Text.{line_feed}
 use Rattle.plan.specs.rules.List.{TextLine, FirstLine, with_feed, without_feed}
-use Rattle.plan.specs.deciding.Reading.{cut_line}
+use Rattle.plan.specs.deciding.Reading.{with_byte, cut_line}
 use Rattle.plan.specs.theorems.Reading.{cut-first-line}
-use Rattle.hints.specs.declared.Hint.TheVariants.{NoHint}
+use Rattle.std.specs.List.{find, list_any, starts_with as prefix_by, ends_with as suffix_by}
+use Rattle.std.specs.Option.{option_map}
+use lib.Pointwise.{pointwise}
+use Rattle.hints.specs.declared.Hint.{Hint}
 use Rattle.hints.specs.Hint.{within, has, ends_in, starts_with, HintTest, ◌gives◌, first_hint, hint_of, line_of}
 
 -- ---- the first line of a text
 
--- The length of the first line of the bytes from i on.
-abbrev pub length_from : List ℕ → ℕ → ℕ
-length_from text i = length (cut_line (drop i text)).bytes
+-- No byte of it is a line feed: its length counts the bytes before one.
+pub empty-line : length (cut_line []).bytes ≡ 0
+unfolding cut_line
+empty-line = refl
 
-module _ (text : List ℕ) (i : ℕ) where
-  -- A line feed at i ends it,
-  pub feed-ends : i < length text → get_or text i 0 ≡ line_feed → length_from text i ≡ 0
-  unfolding cut_line
-  feed-ends inside feed = rw (drop-cons text i 0, feed)
+pub feed-ends : (b : ℕ) (text : List ℕ) → b ≡ line_feed → length (cut_line (b ∷ text)).bytes ≡ 0
+unfolding cut_line
+feed-ends b text feed = rw feed refl
 
-  -- any other byte there is in it,
-  pub other-goes-on : i < length text → get_or text i 0 ≢ line_feed → length_from text i ≡ suc (length_from text (i + 1))
-  unfolding cut_line
-  other-goes-on inside other = rw (add-one i, drop-cons text i 0, ne_eqb (get_or text i 0) line_feed other, cut_line)
-
-  -- and the text's end ends it.
-  pub end-ends : length text ≤ i → length_from text i ≡ 0
-  unfolding cut_line
-  end-ends past = rw (drop_of_length-le text past)
+pub other-goes-on : (b : ℕ) (text : List ℕ) → b ≢ line_feed → length (cut_line (b ∷ text)).bytes ≡ length (cut_line text).bytes + 1
+unfolding cut_line
+other-goes-on b text other =
+    ap (λ (line : TextLine). length line.bytes) (first-byte (eqb b line_feed) (ne_eqb b line_feed other)) ∙ sym (add-one _)
+  where
+    first-byte : (is : Bool) → is ≡ false → (elim is [ true ↦ record { bytes = []; ended = true; rest = text } | false ↦ with_byte b (cut_line text) ]) ≡ with_byte b (cut_line text)
+    first-byte true is = cc
+    first-byte false is = refl
 
 -- The first line is as many bytes of the text as it is long, and ended where that is not all of them.
 record Cut (text : List ℕ) (line : TextLine) : Type 0 where
@@ -68,16 +70,11 @@ cut-hint number text {n} {ended} n-is ended_is =
 
 -- ---- the bytes of a line
 
--- Some byte from place i on is from low to high if byte i is or one after it is.
-pub has-from : (low high : ℕ) (bytes : List ℕ) (i : ℕ) {is : Bool} → i < length bytes → within low high (get_or bytes i 0) ≡ is
-    → has low high (drop i bytes) ≡ (is || has low high (drop (i + 1) bytes))
+-- Some byte is from low to high as the library says it.
+pub has-any : (low high : ℕ) (bytes : List ℕ) → list_any (λ b. within low high b) bytes ≡ has low high bytes
 unfolding has
-has-from low high bytes i inside e = rw (add-one, drop-cons bytes i 0, ← e)
-
--- Past the last byte there is none.
-pub has_end : (low high : ℕ) (bytes : List ℕ) (i : ℕ) → length bytes ≤ i → has low high (drop i bytes) ≡ false
-unfolding has
-has_end low high bytes i past = rw (drop_of_length-le bytes past)
+has-any low high [] = refl
+has-any low high (b ∷ bytes) = ap (λ (rest : Bool). within low high b || rest) (has-any low high bytes)
 
 -- The last byte is the one behind the others.
 pub ends-behind : (last : ℕ) (front : List ℕ) (b : ℕ) → ends_in last (front ++ (b ∷ [])) ≡ eqb b last
@@ -86,52 +83,43 @@ ends-behind last [] b = refl
 ends-behind last (a ∷ []) b = refl
 ends-behind last (a ∷ c ∷ front) b = ends-behind last (c ∷ front) b
 
--- No bytes have no last one; else it stands at the greatest place.
-pub ends-empty : (last : ℕ) (bytes : List ℕ) → length bytes ≡ 0 → ends_in last bytes ≡ false
+-- Equality turned about.
+eqb-turned : (a b : ℕ) → eqb a b ≡ eqb b a
+eqb-turned a b = by-test (eqb a b) refl
+  where
+    by-test : (is : Bool) → eqb a b ≡ is → is ≡ eqb b a
+    by-test true e = sym (eq-eqb b a (sym (eqb-true a b e)))
+    by-test false e = sym (ne_eqb b a (λ same. eqb-false a b e (sym same)))
+
+-- The last byte as the library says it.
+last-part : (last : ℕ) (bytes : List ℕ) (n : ℕ) → suc n ≡ length bytes → pointwise eqb (last ∷ []) (drop n bytes) ≡ ends_in last bytes
 unfolding ends_in
-ends-empty last [] none = refl
-ends-empty last (b ∷ bytes) none = absurd (omega arith)
+last-part last [] n all = absurd (omega (arith, all))
+last-part last (b ∷ []) zero all = rw eqb-turned (and-true (eqb b last))
+last-part last (b ∷ []) (suc n) all = absurd (omega (arith, all))
+last-part last (b ∷ c ∷ bytes) zero all = absurd (omega (arith, all))
+last-part last (b ∷ c ∷ bytes) (suc n) all = last-part last (c ∷ bytes) n (omega (arith, all))
 
-pub ends_at : (last : ℕ) (bytes : List ℕ) (i : ℕ) → suc i ≡ length bytes → ends_in last bytes ≡ eqb (get_or bytes i 0) last
-ends_at last bytes i all =
-    ap (ends_in last) (sym (take-length bytes) ∙ ap (λ (k : ℕ). take k bytes) (sym all) ∙ take-suc bytes i 0 (omega arith))
-    ∙ ends-behind last (take i bytes) (get_or bytes i 0)
+pub ends-suffix : (last : ℕ) (bytes : List ℕ) → suffix_by eqb bytes (last ∷ []) ≡ ends_in last bytes
+unfolding ends_in
+ends-suffix last [] = refl
+ends-suffix last (b ∷ bytes) = last-part last (b ∷ bytes) (length (b ∷ bytes) - 1) (omega arith)
 
--- Fewer bytes do not start with so many.
-pub short-no-start : (start bytes : List ℕ) → length bytes < length start → starts_with start bytes ≡ false
+-- The start as the library says it.
+pub starts-prefix : (start bytes : List ℕ) → prefix_by eqb bytes start ≡ starts_with start bytes
 unfolding starts_with
-short-no-start [] bytes short = absurd (omega arith)
-short-no-start (a ∷ start) [] short = refl
-short-no-start (a ∷ start) (b ∷ bytes) short = rw (short-no-start start bytes (omega arith), starts_with) (and-false (eqb b a))
-
--- From place i on bytes start with others if bytes i are the same and they do from the next place on.
-pub starts_from : (start bytes : List ℕ) (i : ℕ) {is : Bool} → i < length start → i < length bytes
-    → eqb (get_or bytes i 0) (get_or start i 0) ≡ is
-    → starts_with (drop i start) (drop i bytes) ≡ (is && starts_with (drop (i + 1) start) (drop (i + 1) bytes))
-unfolding starts_with
-starts_from start bytes i inside-start inside e = rw (add-one, drop-cons start i 0, drop-cons bytes i 0, ← e)
-
--- All bytes of the start were found.
-pub start-found : (start bytes : List ℕ) (i : ℕ) → length start ≤ i → starts_with (drop i start) bytes ≡ true
-unfolding starts_with
-start-found start bytes i past = rw (drop_of_length-le start past)
+starts-prefix [] bytes = refl
+starts-prefix (a ∷ start) [] = refl
+starts-prefix (a ∷ start) (b ∷ bytes) = ap₂ (λ (s t : Bool). s && t) (eqb-turned a b) (starts-prefix start bytes)
 
 -- ---- the table
 
--- Row number i of a table, from 0.
-abbrev row_at : List HintTest → ℕ → HintTest
-row_at tests i = get_or tests i (false gives NoHint)
+-- A row of the code's table as a row of the rule's.
+abbrev pub row_of : Bool × Hint → HintTest
+row_of row = row.0 gives row.1
 
--- What follows where the first i rows fail: those after them decide.
-pub record Failed (i : ℕ) (tests : List HintTest) : Type 0 where
-  pub rest_gives : first_hint tests ≡ first_hint (drop i tests)
-
-module _ {i : ℕ} {tests : List HintTest} (failed : Failed i tests) (inside : i < length tests) where
-  -- The next one fails too,
-  pub row_fails : (row_at tests i).holds ≡ false → Failed (suc i) tests
-  row_fails fails =
-      record { rest_gives = failed.rest_gives ∙ rw (drop-cons tests i (false gives NoHint) inside, fails, first_hint) }
-
-  -- or gives the hint.
-  pub row_gives : (row_at tests i).holds ≡ true → (row_at tests i).hint ≡ first_hint tests
-  row_gives holds = sym (failed.rest_gives ∙ rw (drop-cons tests i (false gives NoHint) inside, holds, first_hint))
+-- The hint of the first row that the library finds is the table's.
+pub found-first : (rows : List (Bool × Hint)) → option_map (λ row. row.1) (find (λ row. row.0) rows) ≡ first_hint (map row_of rows)
+found-first [] = refl
+found-first ((true, hint) ∷ rows) = refl
+found-first ((false, hint) ∷ rows) = found-first rows

@@ -1,18 +1,20 @@
 // Where and why a list is refused: the line, the refusal, and a hint where a common cause shows in the bytes of that line.
 #![tactic(auto)]
 
-ghost use Rattle.std.specs.Prelude.{◌≡◌, length};
+ghost use Rattle.std.specs.Prelude.{◌≡◌, length, map};
 ghost use Rattle.plan.specs.deciding.Reading.{cut_line};
 ghost use Rattle.hints.specs.Explained.{Explained};
 ghost use Rattle.hints.specs.Hint.{within, has, has_separator, ends_in, starts_with, starts_with_mark, lacks_feed, is_heading};
-ghost use Rattle.hints.specs.Hint.{line_of, hint_of};
+ghost use Rattle.hints.specs.Hint.{first_hint, line_of, hint_of};
+ghost use Rattle.hints.specs.TestLaws.{row_of};
 
 use plan::limits::TextLimits;
-use plan::list::{Stop, refused_line};
+use plan::list::refused_line;
 use plan::refusal::Refusal;
+use std::fmt;
 
-// The causes, in the order in which they are looked for; the last says that none shows.
-#[derive(Clone, Copy)]
+// The causes, in the order in which they are looked for.
+#[derive(Clone, Copy, Debug, PartialEq, Eq)]
 pub enum Hint {
     ByteOrderMark,
     Empty,
@@ -24,180 +26,148 @@ pub enum Hint {
     Separator,
     LowerCase,
     Point,
-    NoHint,
 }
 
-// What is told of a list: the line at which it is refused, counted from 1, the refusal and the hint; or no line, where each is accepted.
+// The cause in words, and what to do about it.
+impl fmt::Display for Hint {
+    ghost use Rattle.std.specs.Prelude.{Some};
+    ghost use Rattle.hints.specs.Hint.{hint_text};
+
+    ghost output = { λ hint. Some (hint_text hint) };
+
+    fn fmt<W: fmt::Write>(&self, f: &mut fmt::Formatter<W>) -> fmt::Result {
+        f.write_str(match self {
+            Hint::ByteOrderMark =>
+                "it starts with a byte order mark; save the list as plain text without one",
+            Hint::Empty => "it is empty; leave no empty lines",
+            Hint::CarriageReturn =>
+                "it has a carriage return; end each line with a line feed alone",
+            Hint::NoLineFeed => "it has no line feed at its end; the last line needs one too",
+            Hint::LongLine => "it is over 20 bytes long; a line has a name, x and y alone",
+            Hint::Heading => "it has no digit; if it is a heading row, leave it out",
+            Hint::EndTab => "it ends in a tab with nothing behind it",
+            Hint::Separator =>
+                "it has a space, a comma or a semicolon; a list has one tab between two fields and none of these",
+            Hint::LowerCase => "it has lower-case letters; the letters of a list are A to Z",
+            Hint::Point => "it has a point; names and coordinates have none",
+        })
+    }
+}
+
+// What is told of a refused list: the line at which it is refused, counted from 1, the refusal, and the hint where a cause shows.
 #[derive(Clone, Copy)]
-pub enum Explanation {
-    Line(usize, Refusal, Hint),
-    NoLine,
+pub struct Explanation {
+    pub line: usize,
+    pub why: Refusal,
+    pub hint: Option<Hint>,
 }
 
 // The length of a text's first line, without its line feed.
 fn line_length(text: &[u8]) -> usize
     ensures { result ≡ length (cut_line text.now).bytes }
 {
-    let n = text.len();
-    for i in 0..n {
-        if text[i] == b'\n' {
-            return i;
-        }
-    }
-    n
+    text.iter().position(|b| *b == b'\n').unwrap_or(text.len())
 }
 
 // Whether a byte is from `low` to `high`.
 fn is_within(b: u8, low: u8, high: u8) -> bool
     ensures { result ≡ within low high b }
 {
-    if b < low {
-        return false;
-    }
-    b <= high
+    low <= b && b <= high
 }
 
 // Whether some byte is from `low` to `high`.
 fn has_byte(bytes: &[u8], low: u8, high: u8) -> bool
     ensures { result ≡ has low high bytes.now }
 {
-    let n = bytes.len();
-    for i in 0..n {
-        if is_within(bytes[i], low, high) {
-            return true;
-        }
-    }
-    false
+    bytes.iter().any(|b| is_within(*b, low, high))
 }
 
 // Whether some byte is a space, a comma or a semicolon.
 fn has_separator(bytes: &[u8]) -> bool
     ensures { result ≡ has_separator bytes.now }
 {
-    if has_byte(bytes, b' ', b' ') {
-        return true;
-    }
-    if has_byte(bytes, b',', b',') {
-        return true;
-    }
-    has_byte(bytes, b';', b';')
+    has_byte(bytes, b' ', b' ') || has_byte(bytes, b',', b',') || has_byte(bytes, b';', b';')
 }
 
 // Whether the last byte is this one.
 fn ends_in(bytes: &[u8], last: u8) -> bool
     ensures { result ≡ ends_in last bytes.now }
 {
-    let n = bytes.len();
-    if n == 0 {
-        return false;
-    }
-    bytes[n - 1] == last
+    bytes.ends_with(&[last])
 }
 
 // Whether the bytes start with these.
 fn starts_with(bytes: &[u8], start: &[u8]) -> bool
     ensures { result ≡ starts_with start.now bytes.now }
 {
-    let n = start.len();
-    if bytes.len() < n {
-        return false;
-    }
-    for i in 0..n {
-        if bytes[i] != start[i] {
-            return false;
-        }
-    }
-    true
+    bytes.starts_with(start)
 }
 
 // Whether the bytes start with a byte order mark: of UTF-8, or of UTF-16 in either order.
 fn starts_with_mark(bytes: &[u8]) -> bool
     ensures { result ≡ starts_with_mark bytes.now }
 {
-    if starts_with(bytes, b"\xEF\xBB\xBF") {
-        return true;
-    }
-    if starts_with(bytes, b"\xFF\xFE") {
-        return true;
-    }
-    starts_with(bytes, b"\xFE\xFF")
+    starts_with(bytes, b"\xEF\xBB\xBF")
+        || starts_with(bytes, b"\xFF\xFE")
+        || starts_with(bytes, b"\xFE\xFF")
 }
 
 // Whether a line has no line feed and at most 20 bytes: one that was cut has more.
 fn lacks_feed(bytes: &[u8], ended: bool) -> bool
     ensures { result ≡ lacks_feed bytes.now ended }
 {
-    if ended {
-        return false;
-    }
-    bytes.len() <= TextLimits::LINE
+    !ended && bytes.len() <= TextLimits::LINE
 }
 
 // Whether a line may be a heading row: the first line, with no digit.
 fn is_heading(line: usize, bytes: &[u8]) -> bool
     ensures { result ≡ is_heading line bytes.now }
 {
-    if line != 1 {
-        return false;
-    }
-    !has_byte(bytes, b'0', b'9')
+    line == 1 && !has_byte(bytes, b'0', b'9')
+}
+
+// The hint of the first row whose test holds.
+fn first_hint(rows: &[(bool, Hint)]) -> Option<Hint>
+    ensures { result ≡ first_hint (map row_of rows.now) }
+{
+    rows.iter().find(|row| row.0).map(|row| row.1)
 }
 
 // The hint for a line, given its bytes without the line feed and whether it has one.
-fn hint_of(line: usize, bytes: &[u8], ended: bool) -> Hint
+fn hint_of(line: usize, bytes: &[u8], ended: bool) -> Option<Hint>
     ensures { result ≡ hint_of line (line_of bytes.now ended) }
 {
-    if starts_with_mark(bytes) {
-        return Hint::ByteOrderMark;
-    }
-    if bytes.len() == 0 {
-        return Hint::Empty;
-    }
-    if has_byte(bytes, b'\r', b'\r') {
-        return Hint::CarriageReturn;
-    }
-    if lacks_feed(bytes, ended) {
-        return Hint::NoLineFeed;
-    }
-    if !ended {
-        return Hint::LongLine;
-    }
-    if is_heading(line, bytes) {
-        return Hint::Heading;
-    }
-    if ends_in(bytes, b'\t') {
-        return Hint::EndTab;
-    }
-    if has_separator(bytes) {
-        return Hint::Separator;
-    }
-    if has_byte(bytes, b'a', b'z') {
-        return Hint::LowerCase;
-    }
-    if has_byte(bytes, b'.', b'.') {
-        return Hint::Point;
-    }
-    Hint::NoHint
+    first_hint(&[
+        (starts_with_mark(bytes), Hint::ByteOrderMark),
+        (bytes.is_empty(), Hint::Empty),
+        (has_byte(bytes, b'\r', b'\r'), Hint::CarriageReturn),
+        (lacks_feed(bytes, ended), Hint::NoLineFeed),
+        (!ended, Hint::LongLine),
+        (is_heading(line, bytes), Hint::Heading),
+        (ends_in(bytes, b'\t'), Hint::EndTab),
+        (has_separator(bytes), Hint::Separator),
+        (has_byte(bytes, b'a', b'z'), Hint::LowerCase),
+        (has_byte(bytes, b'.', b'.'), Hint::Point),
+    ])
 }
 
 // The hint for line number `line`, from 1, of a list; `text` starts at that line and runs on to the end of the list.
-fn hint_for(line: usize, text: &[u8]) -> Hint
+fn hint_for(line: usize, text: &[u8]) -> Option<Hint>
     ensures { result ≡ hint_of line (cut_line text.now) }
 {
     let n = line_length(text);
     hint_of(line, &text[..n], n < text.len())
 }
 
-// What is told of this list.
-pub fn explain(text: &[u8]) -> Explanation
+// What is told of this list; nothing where each line is accepted.
+pub fn explain(text: &[u8]) -> Option<Explanation>
     ensures { Explained text.now result }
 {
-    let stop = refused_line(text);
-    let Stop::AtLine(line) = stop else {
-        return Explanation::NoLine;
-    };
-    let number = line.number;
-    let at = line.at;
-    let why = line.why;
-    Explanation::Line(number, why, hint_for(number, &text[at..]))
+    let stop = refused_line(text)?;
+    Some(Explanation {
+        line: stop.number,
+        why: stop.why,
+        hint: hint_for(stop.number, &text[stop.at..]),
+    })
 }

@@ -1,16 +1,15 @@
 // The corners, numbered as quadrants, and each one's two directions.
 ghost use Rattle.std.specs.Prelude.{◌≡◌};
 ghost use Rattle.placing.specs.rules.Corner.{up_where, directions_of, Corner};
-ghost use Rattle.placing.specs.deciding.Decides.{Decides};
 
 // Which way a label goes from its site: up the axis (to the right, upwards) or down it.
-#[derive(Clone, Copy)]
+#[derive(Clone, Copy, PartialEq, Eq)]
 pub(crate) enum Direction {
     Up,
     Down,
 }
 
-#[derive(Clone, Copy)]
+#[derive(Clone, Copy, PartialEq, Eq)]
 pub(crate) struct Directions {
     pub x: Direction,
     pub y: Direction,
@@ -32,20 +31,4 @@ pub(crate) fn directions_of(corner: u8) -> Directions
         x: direction_where(corner % 4 <= 1),
         y: direction_where(corner <= 2),
     }
-}
-
-fn is_up(d: Direction) -> bool
-    ensures { d ≡ up_where result }
-{
-    match d {
-        Direction::Up => true,
-        Direction::Down => false,
-    }
-}
-
-// The two directions are one.
-pub(crate) fn same_direction(d: Direction, e: Direction) -> bool
-    ensures { Decides result (d ≡ e) }
-{
-    is_up(d) == is_up(e)
 }

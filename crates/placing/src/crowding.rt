@@ -4,7 +4,7 @@
 ghost use Rattle.std.specs.Prelude.{◌≡◌, List, ◌+◌, ◌*◌, ◌≤◌, ◌<◌, length};
 ghost use Rattle.placing.specs.rules.Units.{most_sites};
 ghost use Rattle.placing.specs.rules.Corner.{Corner};
-ghost use Rattle.placing.specs.code.Sites.{Held, Judged, sites_of};
+ghost use Rattle.placing.specs.code.Sites.{Held, Judged};
 ghost use Rattle.placing.specs.code.Reach.{distance_between, Lowered};
 ghost use Rattle.placing.specs.code.Pairs.{SiteLowered, MayLower, PairLowered, RowsBelow, ReachesOver};
 ghost use Rattle.placing.specs.declared.units.Place.{Place};
@@ -12,7 +12,6 @@ ghost use Rattle.placing.specs.declared.way.Way.TheVariants.{Usual, Above};
 ghost use Rattle.placing.specs.code.Crowding.{TopLeft, CrowdingIs, UpperReach};
 
 use crate::geometry::{distance, distance_between, lies_toward};
-use crate::sites::place_at;
 use crate::units::{HalfUnits, Limits, Place};
 use crate::way::Way;
 
@@ -77,21 +76,14 @@ fn lower_pair(
 }
 
 // Lowers the reaches of site `i` and of each later site by each other, for sides up to `top`.
-fn lower_row(
-    xs: &[u32; Limits::SITES],
-    ys: &[u32; Limits::SITES],
-    n: usize,
-    reaches: &mut [u32; Limits::ALL_CORNERS],
-    top: HalfUnits,
-    i: usize,
-)
-    requires { Held n xs.now ys.now top × (i < n)
-        × ReachesOver (sites_of n xs.now ys.now) top.0 (RowsBelow i) reaches.old }
-    ensures { ReachesOver (sites_of n xs.now ys.now) top.0 (RowsBelow (i + 1)) reaches.new }
+fn lower_row(sites: &[Place], reaches: &mut [u32; Limits::ALL_CORNERS], top: HalfUnits, i: usize)
+    requires { Held sites.now top × (i < length sites.now)
+        × ReachesOver sites.now top.0 (RowsBelow i) reaches.old }
+    ensures { ReachesOver sites.now top.0 (RowsBelow (i + 1)) reaches.new }
 {
-    let s = place_at(xs[i], ys[i]);
-    for j in i + 1..n {
-        lower_pair(reaches, top, i, s, j, place_at(xs[j], ys[j]));
+    let s = sites[i];
+    for j in i + 1..sites.len() {
+        lower_pair(reaches, top, i, s, j, sites[j]);
     }
 }
 
@@ -112,20 +104,15 @@ fn top_left(reaches: &[u32; Limits::ALL_CORNERS], i: usize, top: HalfUnits) -> H
 
 // The reaches of all sites for sides up to `most`, and the top. Over no sites they are twice `most`; each pair of sites is gone over once.
 // The top falls with each site, and the next pairs are gone over for sides up to it.
-fn crowding_of(
-    xs: &[u32; Limits::SITES],
-    ys: &[u32; Limits::SITES],
-    n: usize,
-    most: HalfUnits,
-) -> Crowding
-    requires { Held n xs.now ys.now most }
-    ensures { CrowdingIs Usual most.0 (sites_of n xs.now ys.now) n result }
+fn crowding_of(sites: &[Place], most: HalfUnits) -> Crowding
+    requires { Held sites.now most }
+    ensures { CrowdingIs Usual most.0 sites.now result }
 {
     let furthest = most.doubled();
     let mut reaches = [furthest.0; Limits::ALL_CORNERS];
     let mut top = most;
-    for i in 0..n {
-        lower_row(xs, ys, n, &mut reaches, top, i);
+    for i in 0..sites.len() {
+        lower_row(sites, &mut reaches, top, i);
         top = top_left(&reaches, i, top);
     }
     Crowding { reaches, top }
@@ -141,7 +128,7 @@ fn upper_reach(at: usize, furthest: u32) -> u32
 // The reaches by which corners 1 and 2 are open at every side up to `most`, and corners 3 and 4 at none.
 fn upper_corners(n: usize, most: HalfUnits) -> Crowding
     requires { (n ≤ most_sites) × Judged most }
-    ensures { (ps : List Place) → CrowdingIs Above most.0 ps n result }
+    ensures { (ps : List Place) → length ps ≡ n → CrowdingIs Above most.0 ps result }
 {
     let furthest = most.doubled();
     let mut reaches = [0u32; Limits::ALL_CORNERS];
@@ -152,18 +139,12 @@ fn upper_corners(n: usize, most: HalfUnits) -> Crowding
 }
 
 // The reaches of all sites by a way, for sides up to `most`, and the top.
-pub(crate) fn reaches_of(
-    xs: &[u32; Limits::SITES],
-    ys: &[u32; Limits::SITES],
-    n: usize,
-    way: Way,
-    most: HalfUnits,
-) -> Crowding
-    requires { Held n xs.now ys.now most }
-    ensures { CrowdingIs way most.0 (sites_of n xs.now ys.now) n result }
+pub(crate) fn reaches_of(sites: &[Place], way: Way, most: HalfUnits) -> Crowding
+    requires { Held sites.now most }
+    ensures { CrowdingIs way most.0 sites.now result }
 {
     match way {
-        Way::Usual => crowding_of(xs, ys, n, most),
-        Way::Above => upper_corners(n, most),
+        Way::Usual => crowding_of(sites, most),
+        Way::Above => upper_corners(sites.len(), most),
     }
 }

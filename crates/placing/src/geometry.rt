@@ -8,7 +8,7 @@ ghost use Rattle.placing.specs.deciding.Decides.{Decides};
 ghost use Rattle.placing.specs.deciding.Growth.{growth_along, further_of, growth_of};
 ghost use Rattle.placing.specs.code.Reach.{LiesToward, distance_between};
 
-use crate::corner::{Direction, Directions, directions_of, same_direction};
+use crate::corner::{Direction, Directions, directions_of};
 use crate::units::{Growth, HalfUnits, Place, Units};
 
 // The distance between two coordinates of an axis.
@@ -16,7 +16,7 @@ pub(crate) fn distance(a: Units, b: Units) -> HalfUnits
     requires { (a.0 ≤ greatest_coordinate) × (b.0 ≤ greatest_coordinate) }
     ensures { result.0 ≡ in_half_units (dist a.0 b.0) }
 {
-    if a.0 <= b.0 {
+    if a <= b {
         Units(b.0 - a.0).in_half_units()
     } else {
         Units(a.0 - b.0).in_half_units()
@@ -28,7 +28,7 @@ pub(crate) fn distance_between(s: Place, t: Place) -> HalfUnits
     requires { OnPlan s × OnPlan t }
     ensures { result.0 ≡ distance_between s t }
 {
-    distance(s.x, t.x).larger(distance(s.y, t.y))
+    distance(s.x, t.x).max(distance(s.y, t.y))
 }
 
 // Measured from `a` in direction `d`, `b` lies at 0 or more.
@@ -36,8 +36,8 @@ fn onward(d: Direction, a: Units, b: Units) -> bool
     ensures { Decides result (Onward d a.0 b.0) }
 {
     match d {
-        Direction::Up => a.0 <= b.0,
-        Direction::Down => b.0 <= a.0,
+        Direction::Up => a <= b,
+        Direction::Down => b <= a,
     }
 }
 
@@ -63,7 +63,7 @@ fn growth_along(d: Direction, a: Units, e: Direction, b: Units) -> Growth
     ensures { result ≡ growth_along d a.0 e b.0 }
 {
     let apart = distance(a, b);
-    if same_direction(d, e) {
+    if d == e {
         return Growth::UpTo(apart);
     }
     if onward(d, a, b) {
@@ -77,13 +77,10 @@ fn growth_along(d: Direction, a: Units, e: Direction, b: Units) -> Growth
 fn further(x: Growth, y: Growth) -> Growth
     ensures { result ≡ further_of x y }
 {
-    let Growth::UpTo(along_x) = x else {
-        return x;
-    };
-    let Growth::UpTo(along_y) = y else {
-        return y;
-    };
-    if along_x.at_most(along_y) { y } else { x }
+    match (x, y) {
+        (Growth::UpTo(along_x), Growth::UpTo(along_y)) => Growth::UpTo(along_x.max(along_y)),
+        _ => Growth::Never,
+    }
 }
 
 // The label of a site: where the site stands, and the directions in which the label goes from it. A caller who looks at many labels of a

@@ -2,14 +2,12 @@
 // leaves none, is tried first, and then what lies below it by bisection.
 ghost use Rattle.std.specs.Prelude.{◌≡◌, ◌<◌};
 ghost use Rattle.placing.specs.deciding.Answer.{answer_of};
-ghost use Rattle.placing.specs.code.Sites.{sites_of};
-ghost use Rattle.placing.specs.code.Steps.{Kept};
 ghost use Rattle.placing.specs.code.Placed.{MayFind, MayBisect};
 ghost use Rattle.placing.specs.code.Bisect.{NextIs, MayNarrow, Narrowed, SideIs};
 
 use crate::choice::choose;
 use crate::crowding::{Crowding, reaches_of};
-use crate::units::{HalfUnits, Limits, Side};
+use crate::units::{HalfUnits, Limits, Place, Side};
 use crate::way::Way;
 
 // Two sides: `low` has a good choice, and no judged side from `high` on has one. `next`, below `high`, is to be tried next; it is
@@ -31,23 +29,19 @@ fn middle(low: HalfUnits, high: HalfUnits) -> HalfUnits
 
 // Narrows what lies between, to the part in which the greatest side with a good choice is.
 fn narrow(
-    xs: &[u32; Limits::SITES],
-    ys: &[u32; Limits::SITES],
-    n: usize,
+    sites: &[Place],
     way: Way,
     crowding: Crowding,
     between: Between,
     marks: &mut [u8],
 ) -> Between
-    requires { MayNarrow n xs.now ys.now way crowding between marks.old }
-    ensures narrowed { Narrowed way (sites_of n xs.now ys.now) crowding.top.0 between result }
-    ensures kept { Kept n marks.old marks.new }
+    requires { MayNarrow sites.now way crowding between marks.old }
+    ensures { Narrowed way sites.now crowding.top.0 between result }
 {
     let low = between.low;
     let high = between.high;
     let side = between.next;
-    let chosen = choose(xs, ys, n, way, crowding, side, marks);
-    if chosen.ok {
+    if choose(sites, way, crowding, side, marks).is_some() {
         return Between {
             low: side,
             high,
@@ -73,17 +67,9 @@ fn side_of(greatest: HalfUnits) -> Side
 }
 
 // The greatest side by bisection. At 1 corner 1 everywhere is good; the top is tried next, since it often has a good choice.
-fn bisect(
-    xs: &[u32; Limits::SITES],
-    ys: &[u32; Limits::SITES],
-    n: usize,
-    way: Way,
-    crowding: Crowding,
-    marks: &mut [u8],
-) -> Side
-    requires { MayBisect n xs.now ys.now way crowding marks.old }
-    ensures side { result ≡ (answer_of way (sites_of n xs.now ys.now)).side }
-    ensures kept { Kept n marks.old marks.new }
+fn bisect(sites: &[Place], way: Way, crowding: Crowding, marks: &mut [u8]) -> Side
+    requires { MayBisect sites.now way crowding marks.old }
+    ensures { result ≡ (answer_of way sites.now).side }
 {
     let top = crowding.top;
     let mut between = Between {
@@ -92,23 +78,16 @@ fn bisect(
         next: top,
     };
     while between.low.below(between.next) {
-        between = narrow(xs, ys, n, way, crowding, between, marks);
+        between = narrow(sites, way, crowding, between, marks);
     }
     side_of(between.low)
 }
 
-// The greatest side by a way of the first `n` sites at these coordinates.
-pub(crate) fn greatest_side(
-    xs: &[u32; Limits::SITES],
-    ys: &[u32; Limits::SITES],
-    n: usize,
-    way: Way,
-    marks: &mut [u8],
-) -> Side
-    requires { MayFind n xs.now ys.now marks.old }
-    ensures side { result ≡ (answer_of way (sites_of n xs.now ys.now)).side }
-    ensures kept { Kept n marks.old marks.new }
+// The greatest side of these sites, by a way.
+pub(crate) fn greatest_side(sites: &[Place], way: Way, marks: &mut [u8]) -> Side
+    requires { MayFind sites.now marks.old }
+    ensures { result ≡ (answer_of way sites.now).side }
 {
-    let crowding = reaches_of(xs, ys, n, way, HalfUnits(Limits::FREE_SIDE));
-    bisect(xs, ys, n, way, crowding, marks)
+    let crowding = reaches_of(sites, way, HalfUnits(Limits::FREE_SIDE));
+    bisect(sites, way, crowding, marks)
 }

@@ -3,22 +3,22 @@
 // of the lent table marks a site whose decision has been carried out. The arrays are lent; a trial keeps a copy
 // of them as they came, to put back where it fails.
 ghost use Rattle.std.specs.Prelude.{◌≡◌, ℕ, ◌*◌, ◌≤◌, ◌<◌, length, set};
-ghost use Rattle.placing.specs.rules.Units.{most_sites, OnPlan};
+ghost use Rattle.placing.specs.rules.Units.{most_sites, site_at, OnPlan};
 ghost use Rattle.placing.specs.rules.Corner.{Corner, directions_of};
 ghost use Rattle.placing.specs.search.Rows.{row_of};
 ghost use Rattle.placing.specs.code.Labels.{labels};
 ghost use Rattle.placing.specs.deciding.Decides.{Decides};
-ghost use Rattle.placing.specs.code.Sites.{site_in, HasPlace, Judged};
+ghost use Rattle.placing.specs.code.Sites.{Held};
 ghost use Rattle.placing.specs.declared.way.Way.{Way};
 ghost use Rattle.placing.specs.search.State.{Every, Only};
 ghost use Rattle.placing.specs.code.Steps.{Sizes, one_more, LeftIs, TakenCorner, ClosedCorner, label_at, Clash, CarriedThere, CarriedOut};
-ghost use Rattle.placing.specs.code.Steps.{Waits, FirstWaiting, Kept, mark_of, Marked, CarriedOn, Tried};
+ghost use Rattle.placing.specs.code.Steps.{Waits, FirstWaiting, mark_of, Marked, CarriedOn, Tried};
 ghost use Rattle.placing.specs.code.Asks.{MayCarryTo, MayCarryCorner, MayCarryOut, MayLook, MayCarryOn, MayTry};
 
 use crate::corner::{Directions, directions_of};
 use crate::geometry::{Label, distance, growth};
-use crate::sites::{index_of, place_at};
-use crate::units::{HalfUnits, Limits};
+use crate::sites::index_of;
+use crate::units::{HalfUnits, Limits, Place};
 use crate::way::Way;
 
 // Which corners of a site are open: nothing, one, or more.
@@ -80,20 +80,19 @@ fn close_corner(
 // The label of site `k`, `own`, clashes with the one of site `j` in these directions: they are two sites, and the side exceeds how far the
 // two labels grow. Most sites lie too far away along x, so that is asked first.
 fn clash(
-    xs: &[u32; Limits::SITES],
-    ys: &[u32; Limits::SITES],
+    sites: &[Place],
     side: HalfUnits,
     k: usize,
     own: Label,
     j: usize,
     toward: Directions,
 ) -> bool
-    requires { OnPlan own.site × HasPlace xs.now ys.now j × Judged side }
-    ensures { (c e : ℕ) → own ≡ label_at (site_in xs.now ys.now k) c → toward ≡ directions_of e
-        → Decides result (Clash side.0 xs.now ys.now k c j e) }
+    requires { OnPlan own.site × Held sites.now side × (j < length sites.now) }
+    ensures { (c e : ℕ) → own ≡ label_at (site_at sites.now k) c → toward ≡ directions_of e
+        → Decides result (Clash side.0 sites.now k c j e) }
 {
     let s = own.site;
-    let t = place_at(xs[j], ys[j]);
+    let t = sites[j];
     if side.doubled().at_most(distance(s.x, t.x)) {
         return false;
     }
@@ -107,8 +106,7 @@ fn clash(
 // Carries the decision of site `k`, whose label is `own`, to corner `e` of site `j`, with that corner's directions. Site `k` itself stays
 // as it is.
 fn carry_to(
-    xs: &[u32; Limits::SITES],
-    ys: &[u32; Limits::SITES],
+    sites: &[Place],
     side: HalfUnits,
     opens: &mut [u8; Limits::ALL_CORNERS],
     decided: &mut [u8; Limits::SITES],
@@ -118,13 +116,13 @@ fn carry_to(
     e: u8,
     toward: Directions,
 ) -> bool
-    requires { MayCarryTo xs.now ys.now side opens.old decided.old k own j e toward }
-    ensures { (way : Way) (n : ℕ) → CarriedThere (labels way side.0 n xs.now ys.now) (Only e)
+    requires { MayCarryTo sites.now side opens.old decided.old k own j e toward }
+    ensures { (way : Way) → CarriedThere (labels way side.0 sites.now) (Only e)
         opens.old decided.old k j result opens.new decided.new }
 {
     let at = index_of(j, e);
     if opens[at] == 1 {
-        if clash(xs, ys, side, k, own, j, toward) {
+        if clash(sites, side, k, own, j, toward) {
             return close_corner(opens, decided, j, e);
         }
     }
@@ -134,9 +132,7 @@ fn carry_to(
 // Carries the decision of site `k` to corner `e` of all others. No where one is left with no corner. It closes no corner of a site
 // below `from`.
 fn carry_corner(
-    xs: &[u32; Limits::SITES],
-    ys: &[u32; Limits::SITES],
-    n: usize,
+    sites: &[Place],
     side: HalfUnits,
     opens: &mut [u8; Limits::ALL_CORNERS],
     decided: &mut [u8; Limits::SITES],
@@ -144,17 +140,17 @@ fn carry_corner(
     e: u8,
     from: usize,
 ) -> bool
-    requires { MayCarryCorner n xs.now ys.now side opens.old decided.old k e from }
-    ensures { (way : Way) → CarriedOut (labels way side.0 n xs.now ys.now) (Only e)
+    requires { MayCarryCorner sites.now side opens.old decided.old k e from }
+    ensures { (way : Way) → CarriedOut (labels way side.0 sites.now) (Only e)
         opens.old decided.old k result opens.new decided.new }
 {
     let own = Label {
-        site: place_at(xs[k], ys[k]),
+        site: sites[k],
         toward: directions_of(decided[k]),
     };
     let toward = directions_of(e);
-    for j in from..n {
-        if !carry_to(xs, ys, side, opens, decided, k, own, j, e, toward) {
+    for j in from..sites.len() {
+        if !carry_to(sites, side, opens, decided, k, own, j, e, toward) {
             return false;
         }
     }
@@ -163,9 +159,7 @@ fn carry_corner(
 
 // Carries the decision of site `k` to all others. Uncrowded labels meet at equal corners only; above the spot, both corners are looked at.
 fn carry_out(
-    xs: &[u32; Limits::SITES],
-    ys: &[u32; Limits::SITES],
-    n: usize,
+    sites: &[Place],
     way: Way,
     side: HalfUnits,
     opens: &mut [u8; Limits::ALL_CORNERS],
@@ -173,18 +167,18 @@ fn carry_out(
     k: usize,
     from: usize,
 ) -> bool
-    requires { MayCarryOut n xs.now ys.now way side opens.old decided.old k from }
-    ensures { CarriedOut (labels way side.0 n xs.now ys.now) Every
+    requires { MayCarryOut sites.now way side opens.old decided.old k from }
+    ensures { CarriedOut (labels way side.0 sites.now) Every
         opens.old decided.old k result opens.new decided.new }
 {
     let c = decided[k];
     match way {
-        Way::Usual => carry_corner(xs, ys, n, side, opens, decided, k, c, from),
+        Way::Usual => carry_corner(sites, side, opens, decided, k, c, from),
         Way::Above => {
-            if !carry_corner(xs, ys, n, side, opens, decided, k, 1, from) {
+            if !carry_corner(sites, side, opens, decided, k, 1, from) {
                 return false;
             }
-            carry_corner(xs, ys, n, side, opens, decided, k, 2, from)
+            carry_corner(sites, side, opens, decided, k, 2, from)
         }
     }
 }
@@ -215,9 +209,7 @@ fn first_waiting(decided: &[u8; Limits::SITES], marks: &[u8], from: usize, n: us
 
 // Marks site `k` and carries its decision out. No where a site is left with no corner.
 fn mark_and_carry(
-    xs: &[u32; Limits::SITES],
-    ys: &[u32; Limits::SITES],
-    n: usize,
+    sites: &[Place],
     way: Way,
     side: HalfUnits,
     opens: &mut [u8; Limits::ALL_CORNERS],
@@ -226,21 +218,19 @@ fn mark_and_carry(
     k: usize,
     from: usize,
 ) -> bool
-    requires { MayCarryOut n xs.now ys.now way side opens.old decided.old k from × (n ≤ length marks.old) }
-    ensures carried { CarriedOut (labels way side.0 n xs.now ys.now) Every
+    requires { MayCarryOut sites.now way side opens.old decided.old k from × (length sites.now ≤ length marks.old) }
+    ensures carried { CarriedOut (labels way side.0 sites.now) Every
         opens.old decided.old k result opens.new decided.new }
     ensures marked { marks.new ≡ set marks.old k 1 }
 {
     marks[k] = 1;
-    carry_out(xs, ys, n, way, side, opens, decided, k, from)
+    carry_out(sites, way, side, opens, decided, k, from)
 }
 
 // Carries out every decision that is not marked, and marks it. No where a site is left with no corner. The sites below `from` are
 // marked.
 fn carry_on(
-    xs: &[u32; Limits::SITES],
-    ys: &[u32; Limits::SITES],
-    n: usize,
+    sites: &[Place],
     way: Way,
     side: HalfUnits,
     opens: &mut [u8; Limits::ALL_CORNERS],
@@ -248,17 +238,16 @@ fn carry_on(
     marks: &mut [u8],
     from: usize,
 ) -> bool
-    requires { MayCarryOn n xs.now ys.now way side opens.old decided.old marks.old from }
-    ensures carried { CarriedOn (labels way side.0 n xs.now ys.now)
+    requires { MayCarryOn sites.now way side opens.old decided.old marks.old from }
+    ensures { CarriedOn (labels way side.0 sites.now)
         opens.old decided.old result opens.new decided.new }
-    ensures kept { Kept n marks.old marks.new }
 {
     loop {
-        let k = first_waiting(decided, marks, from, n);
-        if k == n {
+        let k = first_waiting(decided, marks, from, sites.len());
+        if k == sites.len() {
             return true;
         }
-        if !mark_and_carry(xs, ys, n, way, side, opens, decided, marks, k, from) {
+        if !mark_and_carry(sites, way, side, opens, decided, marks, k, from) {
             return false;
         }
     }
@@ -274,8 +263,7 @@ fn mark_of(decided: u8) -> u8
 // Marks the decided sites.
 fn mark(decided: &[u8; Limits::SITES], marks: &mut [u8], n: usize)
     requires { (length decided.now ≡ most_sites) × (n ≤ most_sites) × (n ≤ length marks.old) }
-    ensures marked { Marked decided.now n marks.new }
-    ensures kept { Kept n marks.old marks.new }
+    ensures { Marked decided.now n marks.new }
 {
     for j in 0..n {
         marks[j] = mark_of(decided[j]);
@@ -302,9 +290,7 @@ fn take_corner(
 
 // Tries corner `c` of site `i`, with all sites below it decided. No where the trial fails; the arrays are then put back as they came.
 pub(crate) fn try_corner(
-    xs: &[u32; Limits::SITES],
-    ys: &[u32; Limits::SITES],
-    n: usize,
+    sites: &[Place],
     way: Way,
     side: HalfUnits,
     opens: &mut [u8; Limits::ALL_CORNERS],
@@ -313,16 +299,15 @@ pub(crate) fn try_corner(
     i: usize,
     c: u8,
 ) -> bool
-    requires { MayTry n xs.now ys.now way side opens.old decided.old marks.old i c }
-    ensures tried { Tried (labels way side.0 n xs.now ys.now)
+    requires { MayTry sites.now way side opens.old decided.old marks.old i c }
+    ensures { Tried (labels way side.0 sites.now)
         opens.old decided.old i c result opens.new decided.new }
-    ensures kept { Kept n marks.old marks.new }
 {
     let opens_before = *opens;
     let decided_before = *decided;
-    mark(decided, marks, n);
+    mark(decided, marks, sites.len());
     take_corner(opens, decided, i, c);
-    if carry_on(xs, ys, n, way, side, opens, decided, marks, i) {
+    if carry_on(sites, way, side, opens, decided, marks, i) {
         return true;
     }
     *opens = opens_before;

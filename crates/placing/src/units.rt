@@ -7,29 +7,29 @@ ghost use Rattle.placing.specs.deciding.Decides.{Decides};
 ghost use Rattle.placing.specs.rules.Growth.{Exceeds};
 
 // A coordinate, or a distance between two, in units.
-#[derive(Clone, Copy)]
+#[derive(Clone, Copy, PartialEq, Eq, PartialOrd, Ord)]
 pub struct Units(pub u32);
 
 // A side, or a distance, in half units.
-#[derive(Clone, Copy)]
+#[derive(Clone, Copy, PartialEq, Eq, PartialOrd, Ord)]
 pub struct HalfUnits(pub u32);
 
 // Where a site lies: x grows to the right, y grows upwards.
-#[derive(Clone, Copy)]
+#[derive(Clone, Copy, PartialEq, Eq)]
 pub struct Place {
     pub x: Units,
     pub y: Units,
 }
 
 // A side, found or given: a whole number of half units, or free, where no side is too large.
-#[derive(Clone, Copy)]
+#[derive(Clone, Copy, PartialEq, Eq)]
 pub enum Side {
     Number(HalfUnits),
     Free,
 }
 
 // How far two labels grow: up to a side, the greatest at which they do not meet; or they never meet.
-#[derive(Clone, Copy)]
+#[derive(Clone, Copy, PartialEq, Eq)]
 pub enum Growth {
     UpTo(HalfUnits),
     Never,
@@ -101,7 +101,7 @@ impl HalfUnits {
         ensures { Decides result (Exceeds self.0 1 growth) }
     {
         match growth {
-            Growth::UpTo(most) => most.below(self),
+            Growth::UpTo(most) => most < self,
             Growth::Never => false,
         }
     }

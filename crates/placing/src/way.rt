@@ -1,5 +1,5 @@
 // The ways of placing: which corners may be chosen.
-#[derive(Clone, Copy)]
+#[derive(Clone, Copy, PartialEq, Eq)]
 pub enum Way {
     // Corners 1 to 4, none crowded: document 01.
     Usual,

@@ -10,14 +10,13 @@ use Rattle.placing.specs.rules.Choice.{Corners, UpperCorners, MeetingPair, SomeG
 use Rattle.placing.specs.rules.Answer.{Answer, is_side, judged_at, side_number, IsAnswer, IsChosen}
 use Rattle.plan.specs.declared.list.RefusedLine.{RefusedLine}
 use Rattle.plan.specs.declared.plan.Plan.{Plan}
-use Rattle.plan.specs.declared.plan.Planned.{Planned}
 use Rattle.plan.specs.rules.Refusal.{number_of, number_by, accepted}
 use Rattle.plan.specs.rules.List.{Site, places_of, list_text, enter_tests, wanted_at, TextLine, FirstLine, line_tests, Reads}
 use Rattle.plan.specs.rules.Sheet.{sheet_with, side_on, number_on, spots_on, carried, refusal_line}
 use Rattle.plan.specs.deciding.Output.{output_of, exists_at, output_at}
 use Rattle.plan.specs.rules.Calls.{finding_tests, choosing_tests, cleared, side_tests, corner_tests, write_tests}
 use Rattle.plan.specs.calls.Plan.{unplaced_plan, placed_with, placed_plan, sites_in}
-use Rattle.plan.specs.calls.Answers.{outcome_number, side_asked_number, corner_asked_number, written_number, sheet_for, started, AskedCorner, AskedSide, Written}
+use Rattle.plan.specs.calls.Answers.{outcome_number, side_asked_number, corner_asked_number, written_number, sheet_for, started, AskedCorner, AskedSide, Written, Planned}
 
 -- ---- demand 1: bad input is refused first, by its number, with plan and lent buffers as they were; all else ends in an answer
 

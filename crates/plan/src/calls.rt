@@ -1,5 +1,5 @@
-// The calls of document 01 on a plan, with placing split in two and in two ways as document 02 asks. A call takes the plan and hands
-// back the one after it, where that can be another.
+// The calls of document 01 on a plan, with placing split in two and in two ways as document 02 asks. Refused, a call leaves the plan as it
+// came.
 ghost use Rattle.std.specs.Prelude.{◌≡◌, ◌≤◌, length};
 ghost use Rattle.placing.specs.rules.Units.{most_sites};
 ghost use Rattle.placing.specs.rules.Choice.{corner_at};
@@ -16,26 +16,14 @@ ghost use Rattle.plan.specs.Demands.{EnterTold, FindTold, ChooseTold, SideTold, 
 
 use crate::name::name_from;
 use crate::number::{coordinate_at, place_at};
-use crate::plan::{Plan, Planned, enter_read, refuse};
+use crate::plan::{Plan, SiteRead};
 use crate::refusal::Refusal;
 use placing::place::{choose_corners, find_side};
 use placing::units::{Limits, Side};
 use placing::way::Way;
 
-// Enters one site at the end: tests 2, 3, 7, 4, 5.
-pub fn enter(plan: Plan, name: &[u8], x: u64, y: u64) -> Planned
-    requires { Valid plan }
-    ensures answer { result ≡ entered_in plan name.now x y }
-    ensures valid { Valid result.plan }
-    ensures told { EnterTold plan name.now x y result }
-{
-    let site_name = name_from(name);
-    let site_place = place_at(coordinate_at(x), coordinate_at(y));
-    enter_read(plan, site_name, site_place)
-}
-
 // What keeps `n` sites from being placed with a work table of so many bytes: tests 8, 11.
-fn unready(n: usize, bytes: usize) -> Result<(), Refusal>
+fn ready(n: usize, bytes: usize) -> Result<(), Refusal>
     requires { n ≤ most_sites }
     ensures { result ≡ outcome_of (first_refusal (finding_tests n bytes)) }
 {
@@ -46,24 +34,6 @@ fn unready(n: usize, bytes: usize) -> Result<(), Refusal>
         return Err(Refusal::ShortTable);
     }
     Ok(())
-}
-
-// Finds the greatest side of the plan's sites by a way: tests 8, 11. The plan stays with the caller, as it was.
-pub fn find(plan: Plan, way: Way, table: &mut [u8]) -> Result<Side, Refusal>
-    requires { Valid plan }
-    ensures answer { result ≡ found_in plan way table.old }
-    ensures table { table.new ≡ table_found plan table.old }
-    ensures told { FindTold plan table.old result table.new }
-    ensures value { side_carried result
-        ≡ carried_at (number_by (finding_tests plan.count (length table.old))) (side_number (answer_of way (places_of (sites_in plan))).side) }
-{
-    let n = plan.count;
-    let failed = unready(n, table.len());
-    if let Err(why) = failed {
-        return Err(why);
-    }
-    let places = plan.places;
-    Ok(find_side(places, n, way, table))
 }
 
 // Whether a side can be given: a number from 1 to 20,000, or free.
@@ -81,70 +51,92 @@ pub fn is_side(side: Side) -> bool
     }
 }
 
-// Chooses the first good choice by a way at a given side: tests 3, 8, 11, 12. The plan is then placed that way at that side.
-pub fn choose_at(plan: Plan, way: Way, side: Side, table: &mut [u8]) -> Planned
-    requires { Valid plan }
-    ensures answer { result ≡ chosen_in plan way side table.old }
-    ensures table { table.new ≡ table_chosen plan side table.old }
-    ensures valid { Valid result.plan }
-    ensures told { ChooseTold plan way side table.old result table.new }
-{
-    if !is_side(side) {
-        return refuse(plan, Refusal::BadNumber);
+impl Plan {
+    // Enters one site at the end: tests 2, 3, 7, 4, 5.
+    pub fn enter(&mut self, name: &[u8], x: u64, y: u64) -> Result<(), Refusal>
+        requires { Valid self.old }
+        ensures answer { record { outcome = result; plan = self.new } ≡ entered_in self.old name.now x y }
+        ensures valid { Valid self.new }
+        ensures told { EnterTold self.old name.now x y (record { outcome = result; plan = self.new }) }
+    {
+        let place = place_at(coordinate_at(x), coordinate_at(y));
+        self.enter_read(SiteRead {
+            name: name_from(name),
+            place,
+        })
     }
-    let n = plan.count;
-    let failed = unready(n, table.len());
-    if let Err(why) = failed {
-        return refuse(plan, why);
-    }
-    let places = plan.places;
-    let choice = choose_corners(places, n, way, side, table);
-    if !choice.exists {
-        return refuse(plan, Refusal::NoGoodChoice);
-    }
-    let corners = choice.corners;
-    Planned {
-        outcome: Ok(()),
-        plan: Plan::placed_at(plan, way, side, corners),
-    }
-}
 
-// The side that the plan is placed at: test 9.
-pub fn side(plan: Plan) -> Result<Side, Refusal>
-    requires { Valid plan }
-    ensures answer { result ≡ side_asked plan }
-    ensures told { SideTold plan result }
-    ensures value { side_carried result ≡ carried_at (number_by (side_tests plan.placed)) (side_number (answer_for plan).side) }
-{
-    if !plan.placed {
-        return Err(Refusal::NotPlaced);
+    // Finds the greatest side of the plan's sites by a way: tests 8, 11.
+    pub fn find(&self, way: Way, table: &mut [u8]) -> Result<Side, Refusal>
+        requires { Valid self.now }
+        ensures answer { result ≡ found_in self.now way table.old }
+        ensures table { table.new ≡ table_found self.now table.old }
+        ensures told { FindTold self.now table.old result table.new }
+        ensures value { side_carried result
+            ≡ carried_at (number_by (finding_tests self.now.count (length table.old))) (side_number (answer_of way (places_of (sites_in self.now))).side) }
+    {
+        ready(self.count, table.len())?;
+        let sites = &self.places[..self.count];
+        Ok(find_side(sites, way, table))
     }
-    let side = plan.side;
-    Ok(side)
-}
 
-// The corner of site number `i`: tests 9, 6.
-pub fn corner(plan: Plan, i: usize) -> Result<u8, Refusal>
-    requires { Valid plan }
-    ensures answer { result ≡ corner_asked plan i }
-    ensures told { CornerTold plan i result }
-    ensures value { corner_carried result
-        ≡ carried_at (number_by (corner_tests plan.placed plan.count i)) (corner_at (answer_for plan).corners i) }
-{
-    if !plan.placed {
-        return Err(Refusal::NotPlaced);
+    // Chooses the first good choice by a way at a given side: tests 3, 8, 11, 12. The plan is then placed that way at that side.
+    pub fn choose_at(&mut self, way: Way, side: Side, table: &mut [u8]) -> Result<(), Refusal>
+        requires { Valid self.old }
+        ensures answer { record { outcome = result; plan = self.new } ≡ chosen_in self.old way side table.old }
+        ensures table { table.new ≡ table_chosen self.old side table.old }
+        ensures valid { Valid self.new }
+        ensures told { ChooseTold self.old way side table.old (record { outcome = result; plan = self.new }) table.new }
+    {
+        if !is_side(side) {
+            return Err(Refusal::BadNumber);
+        }
+        ready(self.count, table.len())?;
+        let sites = &self.places[..self.count];
+        let corners = choose_corners(sites, way, side, table).ok_or(Refusal::NoGoodChoice)?;
+        self.placed = true;
+        self.way = way;
+        self.side = side;
+        self.corners = corners;
+        Ok(())
     }
-    if i >= plan.count {
-        return Err(Refusal::NoSuchSite);
-    }
-    let corners = plan.corners;
-    Ok(corners[i])
-}
 
-// How many sites the plan has.
-pub fn count(plan: Plan) -> usize
-    requires { Valid plan }
-    ensures { result ≡ counted plan }
-{
-    plan.count
+    // The side that the plan is placed at: test 9.
+    pub fn side(&self) -> Result<Side, Refusal>
+        requires { Valid self.now }
+        ensures answer { result ≡ side_asked self.now }
+        ensures told { SideTold self.now result }
+        ensures value { side_carried result
+            ≡ carried_at (number_by (side_tests self.now.placed)) (side_number (answer_for self.now).side) }
+    {
+        if !self.placed {
+            return Err(Refusal::NotPlaced);
+        }
+        Ok(self.side)
+    }
+
+    // The corner of site number `i`: tests 9, 6.
+    pub fn corner(&self, i: usize) -> Result<u8, Refusal>
+        requires { Valid self.now }
+        ensures answer { result ≡ corner_asked self.now i }
+        ensures told { CornerTold self.now i result }
+        ensures value { corner_carried result
+            ≡ carried_at (number_by (corner_tests self.now.placed self.now.count i)) (corner_at (answer_for self.now).corners i) }
+    {
+        if !self.placed {
+            return Err(Refusal::NotPlaced);
+        }
+        if i >= self.count {
+            return Err(Refusal::NoSuchSite);
+        }
+        Ok(self.corners[i])
+    }
+
+    // How many sites the plan has.
+    pub fn count(&self) -> usize
+        requires { Valid self.now }
+        ensures { result ≡ counted self.now }
+    {
+        self.count
+    }
 }

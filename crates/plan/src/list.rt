@@ -2,7 +2,7 @@
 ghost use Rattle.std.specs.Prelude.{◌≡◌, ◌≤◌, ◌<◌, length};
 ghost use Rattle.plan.specs.rules.Text.{fields_of};
 ghost use Rattle.plan.specs.calls.Plan.{Valid};
-ghost use Rattle.plan.specs.calls.Answers.{read_from};
+ghost use Rattle.plan.specs.calls.Answers.{started, read_from};
 ghost use Rattle.plan.specs.Demands.{ReadTold, StopTold};
 ghost use Rattle.plan.specs.code.Line.{LineEnds, LineReads, LineEntered};
 ghost use Rattle.plan.specs.code.Reading.{LinesReads};
@@ -48,52 +48,46 @@ fn read_line(line: &[u8]) -> Option<SiteRead>
     })
 }
 
-// Enters the site of the line that starts at `at`, and gives the line's end: test 1, then those of entering.
-fn enter_line(plan: &mut Plan, text: &[u8], at: usize) -> Result<usize, Refusal>
-    requires { Valid plan.old × (at < length text.now) }
-    ensures { LineEntered plan.old text.now at result plan.new }
-{
-    let end = line_end(text, at).ok_or(Refusal::BadLine)?;
-    let site = read_line(&text[at..end]).ok_or(Refusal::BadLine)?;
-    plan.enter_read(site)?;
-    Ok(end)
-}
+impl Plan {
+    // Enters the site of the line that starts at `at`, and gives the line's end: test 1, then those of entering.
+    fn enter_line(&mut self, text: &[u8], at: usize) -> Result<usize, Refusal>
+        requires { Valid self.old × (at < length text.now) }
+        ensures { LineEntered text.now at self.old result self.new }
+    {
+        let end = line_end(text, at).ok_or(Refusal::BadLine)?;
+        let site = read_line(&text[at..end]).ok_or(Refusal::BadLine)?;
+        self.enter_read(site)?;
+        Ok(end)
+    }
 
-// Reads line after line into a fresh plan, up to the first refused line or the text's end.
-fn read_lines(text: &[u8]) -> Result<Plan, RefusedLine>
-    ensures { LinesReads text.now result }
-{
-    let mut plan = Plan::start();
-    let mut at = 0;
-    while at < text.len() {
-        match enter_line(&mut plan, text, at) {
-            Ok(end) => at = end + 1,
-            Err(why) => {
-                let number = plan.count + 1;
-                return Err(RefusedLine { number, at, why });
+    // Reads line after line into an empty plan, up to the first refused line or the text's end.
+    fn read_lines(&mut self, text: &[u8]) -> Result<(), RefusedLine>
+        requires { self.old ≡ started }
+        ensures { LinesReads text.now result self.new }
+    {
+        let mut at = 0;
+        while at < text.len() {
+            let number = self.count + 1;
+            match self.enter_line(text, at) {
+                Ok(end) => at = end + 1,
+                Err(why) => return Err(RefusedLine { number, at, why }),
             }
         }
+        Ok(())
     }
-    Ok(plan)
-}
 
-impl Plan {
-    // Reads a whole list, in place of what the plan is, or refuses it at its first refused line and leaves the plan empty.
+    // Reads a whole list, or refuses it at its first refused line; the plan is then empty.
     pub fn read(&mut self, text: &[u8]) -> Result<(), Refusal>
         ensures answer { record { outcome = result; plan = self.new } ≡ read_from text.now }
         ensures valid { Valid self.new }
         ensures told { ReadTold text.now (record { outcome = result; plan = self.new }) }
     {
-        match read_lines(text) {
-            Ok(plan) => {
-                *self = plan;
-                Ok(())
-            }
-            Err(line) => {
-                *self = Plan::start();
-                Err(line.why)
-            }
+        *self = Plan::start();
+        if let Err(line) = self.read_lines(text) {
+            *self = Plan::start();
+            return Err(line.why);
         }
+        Ok(())
     }
 }
 
@@ -101,5 +95,6 @@ impl Plan {
 pub fn refused_line(text: &[u8]) -> Option<RefusedLine>
     ensures { StopTold text.now result }
 {
-    read_lines(text).err()
+    let mut plan = Plan::start();
+    plan.read_lines(text).err()
 }

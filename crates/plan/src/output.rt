@@ -11,13 +11,11 @@ ghost use Rattle.plan.specs.code.Put.{Put};
 ghost use Rattle.plan.specs.code.Filling.{MayPut, planned_output};
 ghost use Rattle.plan.specs.Demands.{ListTold, ListToldAt, Answered, AnsweredAt};
 
-use crate::calls::{choose_at, find, is_side};
+use crate::calls::is_side;
 use crate::limits::TextLimits;
-use crate::list::read;
-use crate::plan::{Plan, Planned, refuse};
+use crate::plan::Plan;
 use crate::put::{put_byte, put_bytes, put_decimal};
 use crate::refusal::Refusal;
-use crate::sheet::compose;
 use placing::units::Side;
 use placing::way::Way;
 
@@ -33,61 +31,48 @@ fn put_refusal(out: &mut [u8], why: Refusal) -> usize
 }
 
 // Puts the sheet of a plan that was placed, or the line of the refusal, at the front of the array, and gives its length.
-fn put_planned(planned: Planned, out: &mut [u8]) -> usize
-    requires { MayPut planned out.old }
-    ensures { Put out.old 0 (planned_output planned) result out.new }
+fn put_planned(outcome: Result<(), Refusal>, plan: &Plan, out: &mut [u8]) -> usize
+    requires { MayPut (record { outcome = outcome; plan = plan.now }) out.old }
+    ensures { Put out.old 0 (planned_output (record { outcome = outcome; plan = plan.now })) result out.new }
 {
-    let outcome = planned.outcome;
-    if let Err(why) = outcome {
-        return put_refusal(out, why);
-    }
-    let plan = planned.plan;
-    compose(plan, out)
-}
-
-// The plan of a list, placed by a way at the side found; where the list is refused or has no sites, an empty plan. It lends both calls a
-// work table of its own.
-pub fn place_list(text: &[u8], way: Way) -> Planned
-    ensures answer { result ≡ list_placed way text.now }
-    ensures valid { Valid result.plan }
-    ensures told { ListTold way text.now result }
-{
-    let listed = read(text);
-    let reading = listed.outcome;
-    if let Err(_) = reading {
-        return listed;
-    }
-    let mut table = [0u8; TextLimits::TABLE];
-    let level = listed.plan;
-    let found = find(level, way, &mut table);
-    match found {
-        Ok(side) => choose_at(level, way, side, &mut table),
-        Err(why) => refuse(level, why),
+    match outcome {
+        Ok(()) => plan.compose(out),
+        Err(why) => put_refusal(out, why),
     }
 }
 
-// The plan of a list, placed by a way at a given side; an empty plan where that is refused.
-pub fn place_list_at(text: &[u8], way: Way, side: Side) -> Planned
-    ensures answer { result ≡ list_placed_at way side text.now }
-    ensures valid { Valid result.plan }
-    ensures told { ListToldAt way side text.now result }
-{
-    if !is_side(side) {
-        return refuse(Plan::start(), Refusal::BadNumber);
+impl Plan {
+    // Reads a list and places it by a way at the side found; where the list is refused or has no sites, the plan is empty. It lends both
+    // calls a work table of its own.
+    pub fn place_list(&mut self, text: &[u8], way: Way) -> Result<(), Refusal>
+        ensures answer { record { outcome = result; plan = self.new } ≡ list_placed way text.now }
+        ensures valid { Valid self.new }
+        ensures told { ListTold way text.now (record { outcome = result; plan = self.new }) }
+    {
+        self.read(text)?;
+        let mut table = [0u8; TextLimits::TABLE];
+        let side = self.find(way, &mut table)?;
+        self.choose_at(way, side, &mut table)
     }
-    let listed = read(text);
-    let outcome = listed.outcome;
-    if let Err(_) = outcome {
-        return listed;
+
+    // Reads a list and places it by a way at a given side; where that is refused, the plan is empty.
+    pub fn place_list_at(&mut self, text: &[u8], way: Way, side: Side) -> Result<(), Refusal>
+        ensures answer { record { outcome = result; plan = self.new } ≡ list_placed_at way side text.now }
+        ensures valid { Valid self.new }
+        ensures told { ListToldAt way side text.now (record { outcome = result; plan = self.new }) }
+    {
+        if !is_side(side) {
+            *self = Plan::start();
+            return Err(Refusal::BadNumber);
+        }
+        self.read(text)?;
+        let mut work_table = [0u8; TextLimits::TABLE];
+        if let Err(why) = self.choose_at(way, side, &mut work_table) {
+            *self = Plan::start();
+            return Err(why);
+        }
+        Ok(())
     }
-    let mut work_table = [0u8; TextLimits::TABLE];
-    let level = listed.plan;
-    let placed = choose_at(level, way, side, &mut work_table);
-    let choosing = placed.outcome;
-    if let Err(why) = choosing {
-        return refuse(Plan::start(), why);
-    }
-    placed
 }
 
 // The output for a list by a way: its sheet, or the line of its refusal, and its length. The array has room for every sheet.
@@ -96,8 +81,9 @@ pub fn output(text: &[u8], way: Way, buffer: &mut [u8; TextLimits::SHEET]) -> us
     ensures buffer { buffer.new ≡ filled_with (output_of way text.now) buffer.old }
     ensures answered { Answered way text.now (take result buffer.new) }
 {
-    let placed = place_list(text, way);
-    put_planned(placed, buffer)
+    let mut plan = Plan::start();
+    let placed = plan.place_list(text, way);
+    put_planned(placed, &plan, buffer)
 }
 
 // The output for a list by a way at a given side.
@@ -106,6 +92,7 @@ pub fn output_at(text: &[u8], way: Way, side: Side, buffer: &mut [u8; TextLimits
     ensures buffer { buffer.new ≡ filled_with (output_at way side text.now) buffer.old }
     ensures answered { AnsweredAt way side text.now (take result buffer.new) }
 {
-    let placed = place_list_at(text, way, side);
-    put_planned(placed, buffer)
+    let mut plan = Plan::start();
+    let placed = plan.place_list_at(text, way, side);
+    put_planned(placed, &plan, buffer)
 }

@@ -1,10 +1,10 @@
 // A plan: the sites of one level in list order and, once it is placed, the way, its side and corners.
-ghost use Rattle.std.specs.Prelude.{◌≡◌, ◌+◌, ◌<◌, set};
+ghost use Rattle.std.specs.Prelude.{◌≡◌, ◌<◌};
 ghost use Rattle.placing.specs.rules.Units.{most_sites};
 ghost use Rattle.plan.specs.rules.List.{entered};
 ghost use Rattle.plan.specs.calls.Plan.{unplaced_plan, sites_in, Valid};
 ghost use Rattle.plan.specs.calls.Answers.{started, handed};
-ghost use Rattle.plan.specs.code.PlanLaws.{unplaced_of, placed_of};
+ghost use Rattle.plan.specs.code.PlanLaws.{one_more};
 ghost use Rattle.plan.specs.code.Entering.{SiteFits, wanted_read, admitted};
 
 use crate::name::Name;
@@ -25,13 +25,6 @@ pub struct Plan {
     pub corners: [u8; Limits::SITES],
 }
 
-// What entering, reading and choosing hand back: the answer, and the plan afterwards.
-#[derive(Clone, Copy)]
-pub struct Planned {
-    pub outcome: Result<(), Refusal>,
-    pub plan: Plan,
-}
-
 // A name and a place to be entered, as they were read: none where they are not by the rules.
 #[derive(Clone, Copy)]
 pub(crate) struct SiteRead {
@@ -45,22 +38,14 @@ impl Plan {
         ensures answer { result ≡ started }
         ensures valid { Valid result }
     {
-        let none = Name::none();
         let nowhere = Place {
             x: Units(0),
             y: Units(0),
         };
-        Plan::unplaced(0, [none; Limits::SITES], [nowhere; Limits::SITES])
-    }
-
-    // The plan of this many sites, with their names and places, that is not placed.
-    fn unplaced(count: usize, names: [Name; Limits::SITES], places: [Place; Limits::SITES]) -> Plan
-        ensures { result ≡ unplaced_of count names places }
-    {
         Plan {
-            count,
-            names,
-            places,
+            count: 0,
+            names: [Name::none(); Limits::SITES],
+            places: [nowhere; Limits::SITES],
             placed: false,
             way: Way::Usual,
             side: Side::Free,
@@ -68,33 +53,6 @@ impl Plan {
         }
     }
 
-    // The plan placed by a way at a side with these corners.
-    pub(crate) fn placed_at(plan: Plan, way: Way, side: Side, corners: [u8; Limits::SITES]) -> Plan
-        ensures { result ≡ placed_of plan.count plan.names plan.places way side corners }
-    {
-        let names = plan.names;
-        let places = plan.places;
-        Plan {
-            count: plan.count,
-            names,
-            places,
-            placed: true,
-            way,
-            side,
-            corners,
-        }
-    }
-}
-
-// A refusal, with the plan as it came.
-pub(crate) fn refuse(plan: Plan, why: Refusal) -> Planned
-    ensures { result ≡ record { outcome = Err why; plan = plan } }
-{
-    let outcome = Err(why);
-    Planned { outcome, plan }
-}
-
-impl Plan {
     // The name and the place that were read, where they can be entered: tests 2, 3, 7, 4, 5.
     fn admit(&self, site: SiteRead) -> Result<(Name, Place), Refusal>
         requires { Valid self.now × SiteFits site }
@@ -115,29 +73,28 @@ impl Plan {
         Ok((name, place))
     }
 
-    // Puts a site at the end. The plan is not placed afterwards.
-    fn push(&mut self, name: Name, place: Place)
+    // One site more, at the end. The plan is not placed afterwards.
+    pub(crate) fn add(&mut self, name: Name, place: Place)
         requires { self.old.count < most_sites }
-        ensures { self.new ≡ unplaced_of (self.old.count + 1) (set self.old.names self.old.count name) (set self.old.places self.old.count place) }
+        ensures { self.new ≡ one_more self.old name place }
     {
-        let n = self.count;
-        self.names[n] = name;
-        self.places[n] = place;
-        self.count = n + 1;
+        self.names[self.count] = name;
+        self.places[self.count] = place;
+        self.count += 1;
         self.placed = false;
         self.way = Way::Usual;
         self.side = Side::Free;
         self.corners = [0u8; Limits::SITES];
     }
 
-    // Enters a site that was read at the end, or refuses it and stays as it is.
+    // One site more, which was read.
     pub(crate) fn enter_read(&mut self, site: SiteRead) -> Result<(), Refusal>
         requires { Valid self.old × SiteFits site }
         ensures answer { record { outcome = result; plan = self.new } ≡ handed unplaced_plan self.old (entered (sites_in self.old) (wanted_read site)) }
         ensures valid { Valid self.new }
     {
         let (name, place) = self.admit(site)?;
-        self.push(name, place);
+        self.add(name, place);
         Ok(())
     }
 }

@@ -48,48 +48,46 @@ fn put_site(out: &mut [u8], at: usize, name: Name, place: Place, corner: u8) -> 
     put_byte(out, after_corner, b'\n')
 }
 
-// The line of site number `i` of a placed plan.
-fn put_line(plan: Plan, i: usize, out: &mut [u8], at: usize) -> usize
-    requires { Valid plan × (plan.placed ≡ true) × (i < plan.count) × (at + longest_site_line ≤ length out.old) }
-    ensures { Put out.old at (line_held plan i) result out.new }
-{
-    let name = plan.names[i];
-    let place = plan.places[i];
-    let corner = plan.corners[i];
-    put_site(out, at, name, place, corner)
-}
+impl Plan {
+    // The line of site number `i` of a placed plan.
+    fn put_line(&self, i: usize, out: &mut [u8], at: usize) -> usize
+        requires { Valid self.now × (self.now.placed ≡ true) × (i < self.now.count) × (at + longest_site_line ≤ length out.old) }
+        ensures { Put out.old at (line_held self.now i) result out.new }
+    {
+        put_site(out, at, self.names[i], self.places[i], self.corners[i])
+    }
 
-// The whole sheet of a placed plan, from the first byte on.
-pub(crate) fn compose(plan: Plan, out: &mut [u8]) -> usize
-    requires { Valid plan × (plan.placed ≡ true) × (longest_sheet ≤ length out.old) }
-    ensures { Put out.old 0 (sheet_for plan) result out.new }
-{
-    let side = plan.side;
-    let mut at = put_side(out, side);
-    for i in 0..plan.count {
-        at = put_line(plan, i, out, at);
+    // The whole sheet of a placed plan, from the first byte on.
+    pub(crate) fn compose(&self, out: &mut [u8]) -> usize
+        requires { Valid self.now × (self.now.placed ≡ true) × (longest_sheet ≤ length out.old) }
+        ensures { Put out.old 0 (sheet_for self.now) result out.new }
+    {
+        let mut at = put_side(out, self.side);
+        for i in 0..self.count {
+            at = self.put_line(i, out, at);
+        }
+        at
     }
-    at
-}
 
-// Writes the sheet into the buffer: tests 9, 10.
-pub fn write(plan: Plan, buffer: &mut [u8]) -> Result<usize, Refusal>
-    requires { Valid plan }
-    ensures answer { result ≡ written_in plan buffer.old }
-    ensures buffer { buffer.new ≡ buffer_after plan buffer.old }
-    ensures sheet { SheetWritten plan.way (sites_in plan) plan.side result buffer.new }
-    ensures told { WriteTold plan buffer.old result buffer.new }
-    ensures value { written_length result
-        ≡ carried_at (number_by (write_tests plan.placed (sheet_for plan) buffer.old)) (length (sheet_for plan)) }
-{
-    if !plan.placed {
-        return Err(Refusal::NotPlaced);
+    // Writes the sheet into the buffer: tests 9, 10.
+    pub fn write(&self, buffer: &mut [u8]) -> Result<usize, Refusal>
+        requires { Valid self.now }
+        ensures answer { result ≡ written_in self.now buffer.old }
+        ensures buffer { buffer.new ≡ buffer_after self.now buffer.old }
+        ensures sheet { SheetWritten self.now.way (sites_in self.now) self.now.side result buffer.new }
+        ensures told { WriteTold self.now buffer.old result buffer.new }
+        ensures value { written_length result
+            ≡ carried_at (number_by (write_tests self.now.placed (sheet_for self.now) buffer.old)) (length (sheet_for self.now)) }
+    {
+        if !self.placed {
+            return Err(Refusal::NotPlaced);
+        }
+        let mut sheet = [0u8; TextLimits::SHEET];
+        let n = self.compose(&mut sheet);
+        if buffer.len() < n {
+            return Err(Refusal::ShortBuffer);
+        }
+        put_bytes(buffer, 0, &sheet, n);
+        Ok(n)
     }
-    let mut sheet = [0u8; TextLimits::SHEET];
-    let n = compose(plan, &mut sheet);
-    if buffer.len() < n {
-        return Err(Refusal::ShortBuffer);
-    }
-    put_bytes(buffer, 0, &sheet, n);
-    Ok(n)
 }

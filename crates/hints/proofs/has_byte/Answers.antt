@@ -1,29 +1,14 @@
--- `has_byte` meets its contract: no byte passed is in the range, so those left decide. The measure is how many these are.
+-- `has_byte` meets its contract: the library's `any` is the rule's.
 -- Assumes nothing.
-use mathlib.Core.Path.{refl, sym, ◌∙◌}
-use native.Mathlib.Omega.{arith}
-use borrow.Author.Rules.{rules}
-use Rattle.hints.specs.TestLaws.{has-from, has_end}
+use Rattle.std.proofs.Common.{◌∙◌, rules}
+use Rattle.std.proofs.lemmas.Iterator.{YieldsList-from_slice}
+use Rattle.std.proofs.lemmas.Iterator.Search.{any_from_yields_List}
+use Rattle.hints.specs.Hint.{within}
+use Rattle.hints.specs.TestLaws.{has-any}
 use Rattle.hints.proofs.has_byte.Goals as goal
-
-pub loop-i-init : goal.loop-i-init
-loop-i-init c =
-    (refl, search rules, refl)
-
-pub returns-then-is_within : goal.returns-then-is_within
-returns-then-is_within c =
-    let args = c.args in
-    let found = sym c.is_within.ensures ∙ c.if-is_within.true in
-    sym (c.loop-i.invariant.2 ∙ has-from args.low args.high args.bytes.now c.loop-i.i (omega arith) found)
-
-pub loop-i-preserved : goal.loop-i-preserved
-loop-i-preserved c =
-    let args = c.args in
-    let passed = sym c.is_within.ensures ∙ c.if-is_within.false in
-    let further = has-from args.low args.high args.bytes.now c.loop-i.i (omega arith) passed in
-    (refl, omega arith, c.loop-i.invariant.2 ∙ further)
 
 pub returns : goal.returns
 returns c =
-    let args = c.args in
-    sym (c.loop-i.invariant.2 ∙ has_end args.low args.high args.bytes.now c.loop-i.i (omega arith))
+    any_from_yields_List (λ b. within c.args.low c.args.high b) _ _ _ c.any.ensures.ran (YieldsList-from_slice c.args.bytes.now cc)
+    (λ x b q k. search rules)
+    ∙ has-any c.args.low c.args.high c.args.bytes.now

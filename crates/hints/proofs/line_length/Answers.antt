@@ -1,24 +1,16 @@
--- `line_length` meets its contract: the bytes passed are of the first line. The measure is what is left.
+-- `line_length` meets its contract: the first line feed ends the line.
 -- Assumes nothing.
-use mathlib.Core.Path.{refl}
-use native.Mathlib.Omega.{arith}
-use borrow.Author.Rules.{rules}
-use Rattle.hints.specs.TestLaws.{feed-ends, other-goes-on, end-ends}
+use Rattle.std.proofs.Common.{sym, ◌∙◌, List, ℕ, length, ◌≡◌, ◌≢◌, rules, tests}
+use Rattle.std.proofs.lemmas.Iterator.{IsFirst-from_position, YieldsList-from_slice, index_from_first}
+use Rattle.plan.specs.rules.Text.{line_feed}
+use Rattle.plan.specs.deciding.Reading.{cut_line}
+use Rattle.hints.specs.TestLaws.{empty-line, feed-ends, other-goes-on}
 use Rattle.hints.proofs.line_length.Goals as goal
-
-pub loop-i-init : goal.loop-i-init
-loop-i-init c =
-    (refl, search rules, omega arith)
-
-pub returns-then-text-i-eq10 : goal.returns-then-text-i-eq10
-returns-then-text-i-eq10 c =
-    omega (arith, feed-ends c.args.text.now c.loop-i.i (omega arith) c.if-text-i-eq10.true)
-
-pub loop-i-preserved : goal.loop-i-preserved
-loop-i-preserved c =
-    let on = other-goes-on c.args.text.now c.loop-i.i (omega arith) c.if-text-i-eq10.false in
-    (refl, omega arith, omega arith)
 
 pub returns : goal.returns
 returns c =
-    omega (arith, end-ends c.args.text.now c.loop-i.i (omega arith))
+    let text = c.args.text.now in
+    let first =
+    IsFirst-from_position _ _ _ (λ b. b ≡ line_feed) (λ b. b ≢ line_feed) c.position.ensures.ran (YieldsList-from_slice text cc)
+    (λ x q k. search (rules, tests)) (λ x q k. search (rules, tests)) in
+    c.unwrap_or.ensures ∙ sym (index_from_first (λ (line : List ℕ). length (cut_line line).bytes) _ _ empty-line feed-ends other-goes-on text _ first)

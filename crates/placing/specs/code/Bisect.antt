@@ -1,9 +1,8 @@
 -- The greatest side, between one that has a good choice and one from which on no judged side has.
 -- Assumes nothing.
-use Rattle.std.specs.Prelude.{◌≡◌, Bool, true, false, List, ℕ, suc, ◌+◌, ◌-◌, ◌≤◌, ◌<◌, length, take, replicate}
-use Rattle.std.proofs.Common.{sym, ap, subst, ◌∙◌, arith}
+use Rattle.std.specs.Prelude.{◌≡◌, List, ℕ, suc, ◌+◌, ◌-◌, ◌≤◌, ◌<◌, length, replicate}
+use Rattle.std.proofs.Common.{sym, subst, ◌∙◌, arith}
 use Rattle.std.proofs.Math.Decide.{ℕ_discrete, dec_le}
-use Rattle.placing.specs.declared.choice.Chosen.{Chosen}
 use Rattle.placing.specs.declared.crowding.Crowding.{Crowding}
 use Rattle.placing.specs.declared.side.Between.{Between}
 use Rattle.placing.specs.declared.units.HalfUnits.{HalfUnits}
@@ -13,12 +12,11 @@ use Rattle.placing.specs.declared.units.Side.TheVariants.{Number, Free}
 use Rattle.placing.specs.declared.way.Way.{Way}
 use Rattle.placing.specs.rules.Units.{Distinct, free_side}
 use Rattle.placing.specs.rules.Choice.{Good, SomeGood}
-use Rattle.placing.specs.deciding.Answer.{answer_of, first_good}
+use Rattle.placing.specs.deciding.Answer.{answer_of}
 use Rattle.placing.specs.theorems.Choice.{good-smaller, good-one-exists}
-use Rattle.placing.specs.theorems.Answer.{first_good-some, first_good-none, side-found, side-free}
-use Rattle.placing.specs.code.Sites.{Held, sites_of}
+use Rattle.placing.specs.theorems.Answer.{NoneGood, side-found, side-free}
+use Rattle.placing.specs.code.Sites.{Held}
 use Rattle.placing.specs.code.Crowding.{judged_free, NoneFrom, CrowdingIs}
-use Rattle.placing.specs.code.Chosen.{where_yes, choice_in}
 
 -- The side to try next between two: below the upper one, and above the lower one unless they are one apart.
 pub record NextIs (low high next : ℕ) : Type 0 where
@@ -35,11 +33,11 @@ pub record BetweenIs (way : Way) (ps : List Place) (top : ℕ) (between : Betwee
   pub next_is : NextIs between.low.0 between.high.0 between.next.0
 
 -- Narrowing what lies between two sides where one is left to try.
-pub record MayNarrow (n : ℕ) (xs ys : List ℕ) (way : Way) (crowding : Crowding) (between : Between) (marks : List ℕ) : Type 0 where
-  pub held : Held n xs ys judged_free
-  pub room : n ≤ length marks
-  pub crowding_is : CrowdingIs way free_side (sites_of n xs ys) n crowding
-  pub between_is : BetweenIs way (sites_of n xs ys) crowding.top.0 between
+pub record MayNarrow (sites : List Place) (way : Way) (crowding : Crowding) (between : Between) (marks : List ℕ) : Type 0 where
+  pub held : Held sites judged_free
+  pub room : length sites ≤ length marks
+  pub crowding_is : CrowdingIs way free_side sites crowding
+  pub between_is : BetweenIs way sites crowding.top.0 between
   pub left : between.low.0 < between.next.0
 
 -- What lies between is less than before.
@@ -68,22 +66,18 @@ between-starts {ps = ps} top distinct none =
       next_is = record { below = omega arith; end = λ last. omega arith };
     }
 
-module _ {way : Way} {ps : List Place} (n : ℕ) {top : ℕ} {between : Between} (is-between : BetweenIs way ps top between)
-    (left : between.low.0 < between.next.0) (chosen : Chosen) (is : choice_in n chosen ≡ first_good way between.next.0 ps)
-    (next : HalfUnits) where
+module _ {way : Way} {ps : List Place} {top : ℕ} {between : Between} (is-between : BetweenIs way ps top between)
+    (left : between.low.0 < between.next.0) (next : HalfUnits) where
   -- The side tried has a good choice: it is the next lower end.
-  pub narrowed-up : chosen.ok ≡ true → NextIs between.next.0 between.high.0 next.0
+  pub narrowed-up : SomeGood way between.next.0 ps → NextIs between.next.0 between.high.0 next.0
       → Narrowed way ps top between (record { low = between.next; high = between.high; next = next })
-  narrowed-up ok next_is =
+  narrowed-up some next_is =
       record {
         between_is = record {
           least = omega (arith, is-between.least);
           below = is-between.next_is.below;
           most = is-between.most;
-          some_good = record {
-            choice = take n chosen.corners;
-            good = (first_good-some (sym is ∙ ap (λ (b : Bool). where_yes b (take n chosen.corners)) ok)).good;
-          };
+          some_good = some;
           none_good_from_high = is-between.none_good_from_high;
           next_is = next_is;
         };
@@ -91,9 +85,9 @@ module _ {way : Way} {ps : List Place} (n : ℕ) {top : ℕ} {between : Between}
       }
 
   -- It has none: it is the next upper end.
-  pub narrowed-down : chosen.ok ≡ false → NextIs between.low.0 between.next.0 next.0
+  pub narrowed-down : NoneGood way between.next.0 ps → NextIs between.low.0 between.next.0 next.0
       → Narrowed way ps top between (record { low = between.low; high = between.next; next = next })
-  narrowed-down failed next_is =
+  narrowed-down none next_is =
       record {
         between_is = record {
           least = is-between.least;
@@ -105,9 +99,6 @@ module _ {way : Way} {ps : List Place} (n : ℕ) {top : ℕ} {between : Between}
         };
         less = omega (arith, is-between.next_is.below);
       }
-    where
-      none : (es : List ℕ) → Good way between.next.0 ps es → ⊥
-      none = first_good-none (sym is ∙ ap (λ (b : Bool). where_yes b (take n chosen.corners)) failed)
 
 -- The side of an answer, by the greatest judged side that has a good choice: free at the side at which free is judged.
 pub record SideIs (greatest : HalfUnits) (side : Side) : Type 0 where

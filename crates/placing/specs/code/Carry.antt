@@ -8,14 +8,14 @@ use Rattle.std.proofs.Math.Decide.{ℕ_discrete}
 use Rattle.placing.specs.declared.corner.Directions.{Directions}
 use Rattle.placing.specs.declared.geometry.Label.{Label}
 use Rattle.placing.specs.declared.units.HalfUnits.{HalfUnits}
+use Rattle.placing.specs.declared.units.Place.{Place}
 use Rattle.placing.specs.declared.way.Way.{Way}
 use Rattle.placing.specs.rules.Corner.{Corner, directions_of}
-use Rattle.placing.specs.rules.Units.{most_sites}
+use Rattle.placing.specs.rules.Units.{most_sites, site_at}
 use Rattle.placing.specs.rules.Choice.{corner_at}
 use Rattle.placing.specs.search.Problem.{Problem}
 use Rattle.placing.specs.search.Rows.{index_of, row_of, row_zero, row_at, open-corner, row_same, row_written, row_kept, row-elsewhere}
 use Rattle.placing.specs.search.State.{SomeOpen, TwoOpen, Only, CarriedTo}
-use Rattle.placing.specs.code.Sites.{site_in, held_place}
 use Rattle.placing.specs.code.Filled.{Filled, filled-elsewhere}
 use Rattle.placing.specs.code.Labels.{labels}
 use Rattle.placing.specs.code.Asks.{MayCarryTo, MayCarry, MayCarryCorner}
@@ -182,21 +182,21 @@ module _ (P : Problem) (opens decided : List ℕ) (k j : ℕ) (settled : Settled
             two_left = λ e free was-open shut. two_left left free;
           }
 
-module _ {xs ys : List ℕ} {side : HalfUnits} {opens decided : List ℕ} {k : ℕ} {own : Label} {j e : ℕ} {toward : Directions}
-    (may : MayCarryTo xs ys side opens decided k own j e toward) where
+module _ {sites : List Place} {side : HalfUnits} {opens decided : List ℕ} {k : ℕ} {own : Label} {j e : ℕ} {toward : Directions}
+    (may : MayCarryTo sites side opens decided k own j e toward) where
   -- Carrying the decision of site k to corner e of site j: it is open, meets the label of site k, and was closed.
   pub carried-meeting : (ok : Bool) (opens' decided' : List ℕ) → get_or opens (index_of j e) 0 ≡ 1
-      → Clash side.0 xs ys k (corner_at decided k) j e → ClosedCorner opens decided j e ok opens' decided'
-      → (way : Way) (n : ℕ) → CarriedThere (labels way side.0 n xs ys) (Only e) opens decided k j ok opens' decided'
-  carried-meeting ok opens' decided' is_open clash closed way n =
-      carried-closed (labels way side.0 n xs ys) opens decided k j may.settled e ok opens' decided' clash.different
+      → Clash side.0 sites k (corner_at decided k) j e → ClosedCorner opens decided j e ok opens' decided'
+      → (way : Way) → CarriedThere (labels way side.0 sites) (Only e) opens decided k j ok opens' decided'
+  carried-meeting ok opens' decided' is_open clash closed way =
+      carried-closed (labels way side.0 sites) opens decided k j may.settled e ok opens' decided' clash.different
       (row_at opens j e may.corner ∙ is_open) clash.meets closed
 
   -- It is not open, or does not meet the label of site k.
-  pub carried-apart : (get_or opens (index_of j e) 0 ≡ 1 → Clash side.0 xs ys k (corner_at decided k) j e → ⊥)
-      → (way : Way) (n : ℕ) → CarriedThere (labels way side.0 n xs ys) (Only e) opens decided k j true opens decided
-  carried-apart apart way n =
-      carried_same (labels way side.0 n xs ys) opens decided k j may.settled may.sizes
+  pub carried-apart : (get_or opens (index_of j e) 0 ≡ 1 → Clash side.0 sites k (corner_at decided k) j e → ⊥)
+      → (way : Way) → CarriedThere (labels way side.0 sites) (Only e) opens decided k j true opens decided
+  carried-apart apart way =
+      carried_same (labels way side.0 sites) opens decided k j may.settled may.sizes
       (λ different f same is_open meets.
       apart (sym (row_at opens j e may.corner) ∙ rw same at is_open) (record { different = different; meets = rw same at meets }))
 
@@ -230,13 +230,13 @@ pub record CarriedBelow (P : Problem) (Looked : ℕ → Type 0) (opens₀ decide
   pub own : SameSite opens₀ decided₀ opens decided k
 
 -- It starts at site `from`: below it nothing is to be done.
-pub carried-start : {n : ℕ} {xs ys : List ℕ} {side : HalfUnits} {opens decided : List ℕ} {k from : ℕ} {Looked : ℕ → Type 0} (way : Way)
-    → MayCarry n xs ys side opens decided k from → CarriedBelow (labels way side.0 n xs ys) Looked opens decided k from opens decided
-carried-start {n} {xs} {ys} {side} {opens} {decided} {k} way may =
+pub carried-start : {sites : List Place} {side : HalfUnits} {opens decided : List ℕ} {k from : ℕ} {Looked : ℕ → Type 0} (way : Way)
+    → MayCarry sites side opens decided k from → CarriedBelow (labels way side.0 sites) Looked opens decided k from opens decided
+carried-start {sites} {side} {opens} {decided} {k} way may =
     record {
       sizes = may.sizes;
       carried = λ i below different.
-          (carried_same (labels way side.0 n xs ys) opens decided k i
+          (carried_same (labels way side.0 sites) opens decided k i
           (may.settled.all_settled i (lt_of_lt_of_le below may.inside))
           may.sizes
           (λ other e looked. (may.apart_below i below other).apart e)
@@ -307,18 +307,18 @@ module _ {P : Problem} {Looked : ℕ → Type 0} {opens₀ decided₀ : List ℕ
         }
 
 -- On its way it may be carried to the next site.
-pub may-carry-to : {n : ℕ} {xs ys : List ℕ} {side : HalfUnits} {P : Problem} {Looked : ℕ → Type 0} {opens₀ decided₀ : List ℕ}
+pub may-carry-to : {sites : List Place} {side : HalfUnits} {P : Problem} {Looked : ℕ → Type 0} {opens₀ decided₀ : List ℕ}
     {k e from j : ℕ} {opens decided : List ℕ} {own : Label} {toward : Directions}
-    → MayCarryCorner n xs ys side opens₀ decided₀ k e from → CarriedBelow P Looked opens₀ decided₀ k j opens decided → j < n
-    → own ≡ label_at (site_in xs ys k) (corner_at decided₀ k) → toward ≡ directions_of e
-    → MayCarryTo xs ys side opens decided k own j e toward
+    → MayCarryCorner sites side opens₀ decided₀ k e from → CarriedBelow P Looked opens₀ decided₀ k j opens decided → j < length sites
+    → own ≡ label_at (site_at sites k) (corner_at decided₀ k) → toward ≡ directions_of e
+    → MayCarryTo sites side opens decided k own j e toward
 may-carry-to {j = j} asked below listed own_is toward_is =
     let may = asked.carrying in
     let same = below.later j (omega arith) in
     record {
-      judged = record { judged = may.held.judged };
-      from = held_place may.held may.listed;
-      to = held_place may.held listed;
+      held = may.held;
+      from = may.listed;
+      to = listed;
       sizes = below.sizes;
       corner = asked.corner;
       own_is = rw below.own.decision own_is;

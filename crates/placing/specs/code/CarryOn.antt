@@ -4,44 +4,43 @@
 use Rattle.std.specs.Prelude.{◌≡◌, refl, Bool, true, false, List, ◌≢◌, ℕ, ◌≤◌, ◌<◌, length, set}
 use Rattle.std.proofs.Common.{sym, ap, ◌∙◌, true≢false, lt_of_lt_of_le, arith, length-set, get_or-set_other}
 use Rattle.placing.specs.declared.units.HalfUnits.{HalfUnits}
+use Rattle.placing.specs.declared.units.Place.{Place}
 use Rattle.placing.specs.declared.way.Way.{Way}
 use Rattle.placing.specs.rules.Choice.{corner_at}
 use Rattle.placing.specs.search.Problem.{Problem}
 use Rattle.placing.specs.search.Rows.{row_of}
 use Rattle.placing.specs.search.State.{Every, Underway, Closed, Later, Took}
 use Rattle.placing.specs.search.Trial.{trial-begins, trial-later-start, carried-underway, carried_later, stuck-refused, trial-closed}
-use Rattle.placing.specs.code.Steps.{Done, Sizes, AllSettled, TakenCorner, CarriedOut, Waits, FirstWaiting, Kept, Marked, CarriedOn, Tried}
+use Rattle.placing.specs.code.Steps.{Done, Sizes, AllSettled, TakenCorner, CarriedOut, Waits, FirstWaiting, Marked, CarriedOn, Tried}
 use Rattle.placing.specs.code.Sites.{Held}
 use Rattle.placing.specs.code.Labels.{labels, met_looked}
 use Rattle.placing.specs.code.Asks.{MayCarryOut, MayCarryOn}
-use Rattle.placing.specs.code.Marks.{mark-stays, kept_same, kept_set, none-waits-marked}
+use Rattle.placing.specs.code.Marks.{mark-stays, none-waits-marked}
 
 -- Some decisions have been carried out since the state opens₀, decided₀: the marked ones, those of the sites below `from` among them.
-pub record CarryingOn (P : Problem) (from : ℕ) (opens₀ decided₀ marks₀ opens decided marks : List ℕ) : Type 0 where
+pub record CarryingOn (P : Problem) (from : ℕ) (opens₀ decided₀ opens decided marks : List ℕ) : Type 0 where
   pub sizes : Sizes opens decided
   pub room : P.n ≤ length marks
-  pub kept : Kept P.n marks₀ marks
   pub underway : Underway P opens decided (Done marks)
   pub later : (w d : List ℕ) (i c : ℕ) → i < P.n → c ≢ 0
       → Later P w d i c opens₀ decided₀ → Later P w d i c opens decided
   pub marked_below : (j : ℕ) → j < from → Done marks j
 
 -- Carrying on starts with the state as it is.
-pub carrying-starts : {n : ℕ} {xs ys : List ℕ} {way : Way} {side : HalfUnits} {opens decided marks : List ℕ} {from : ℕ}
-    → MayCarryOn n xs ys way side opens decided marks from
-    → CarryingOn (labels way side.0 n xs ys) from opens decided marks opens decided marks
+pub carrying-starts : {sites : List Place} {way : Way} {side : HalfUnits} {opens decided marks : List ℕ} {from : ℕ}
+    → MayCarryOn sites way side opens decided marks from
+    → CarryingOn (labels way side.0 sites) from opens decided opens decided marks
 carrying-starts may =
     record {
       sizes = may.sizes;
       room = may.room;
-      kept = kept_same;
       underway = may.underway;
       later = λ w d i c inside some later. later;
       marked_below = may.marked_below;
     }
 
-module _ {P : Problem} {from : ℕ} {opens₀ decided₀ marks₀ opens decided marks : List ℕ}
-    (so_far : CarryingOn P from opens₀ decided₀ marks₀ opens decided marks) where
+module _ {P : Problem} {from : ℕ} {opens₀ decided₀ opens decided marks : List ℕ}
+    (so_far : CarryingOn P from opens₀ decided₀ opens decided marks) where
   -- The decided corner of every decided site alone is open.
   carrying-settled : AllSettled P.n opens decided
   carrying-settled =
@@ -87,13 +86,12 @@ module _ {P : Problem} {from : ℕ} {opens₀ decided₀ marks₀ opens decided 
 
     module _ {ok : Bool} {opens' decided' : List ℕ} (out : CarriedOut P Every opens decided k ok opens' decided') where
       -- After the decision of site k is carried out and k is marked, the trial goes on ..
-      pub carrying-on : ok ≡ true → CarryingOn P from opens₀ decided₀ marks₀ opens' decided' (set marks k 1)
+      pub carrying-on : ok ≡ true → CarryingOn P from opens₀ decided₀ opens' decided' (set marks k 1)
       carrying-on went =
           let carried = out.carried went in
           record {
             sizes = out.sizes;
             room = rw length-set so_far.room;
-            kept = kept_set 1 listed so_far.kept;
             underway = carried-underway so_far.underway listed is_decided carried
                 (λ j inside different done. sym (get_or-set_other marks k j 1 0 different) ∙ done);
             later = λ w d i c inside some later.
@@ -113,10 +111,10 @@ module _ {P : Problem} {from : ℕ} {opens₀ decided₀ marks₀ opens decided 
           }
 
 -- A decision may be carried out: open corners are allowed, so that those whose labels meet it are looked at.
-pub may-carry-out : {n : ℕ} {xs ys : List ℕ} {way : Way} {side : HalfUnits} {opens₀ decided₀ marks₀ opens decided marks : List ℕ} {k from : ℕ}
-    → Held n xs ys side → from ≤ n → CarryingOn (labels way side.0 n xs ys) from opens₀ decided₀ marks₀ opens decided marks → k < n
-    → corner_at decided k ≢ 0 → MayCarryOut n xs ys way side opens decided k from
-may-carry-out {n} {xs} {ys} {way} {side} held inside so_far listed is_decided =
+pub may-carry-out : {sites : List Place} {way : Way} {side : HalfUnits} {opens₀ decided₀ opens decided marks : List ℕ} {k from : ℕ}
+    → Held sites side → from ≤ length sites → CarryingOn (labels way side.0 sites) from opens₀ decided₀ opens decided marks → k < length sites
+    → corner_at decided k ≢ 0 → MayCarryOut sites way side opens decided k from
+may-carry-out {sites} {way} {side} held inside so_far listed is_decided =
     let own = carrying-candidate so_far listed is_decided in
     record {
       carrying = record {
@@ -131,7 +129,7 @@ may-carry-out {n} {xs} {ys} {way} {side} held inside so_far listed is_decided =
         };
       };
       met_looked = λ j other different. record {
-        looked = λ e is_open. met_looked way side.0 n xs ys listed other different own (so_far.underway.candidate j e other is_open);
+        looked = λ e is_open. met_looked way side.0 sites listed other different own (so_far.underway.candidate j e other is_open);
       };
     }
 

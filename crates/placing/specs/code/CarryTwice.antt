@@ -4,6 +4,7 @@ use Rattle.std.specs.Prelude.{◌≡◌, Bool, true, false, List, ◌≢◌, ◌
 use Rattle.std.proofs.Common.{sym, subst, ◌∙◌, true≢false, inl, inr, ⊎_elim, lt_of_lt_of_le, arith}
 use Rattle.std.proofs.Math.Decide.{ℕ_discrete}
 use Rattle.placing.specs.declared.units.HalfUnits.{HalfUnits}
+use Rattle.placing.specs.declared.units.Place.{Place}
 use Rattle.placing.specs.declared.way.Way.{Way}
 use Rattle.placing.specs.declared.way.Way.TheVariants.{Usual, Above}
 use Rattle.placing.specs.rules.Corner.{Corner}
@@ -167,10 +168,10 @@ settled-after {P} {Looked} {opens} {decided} {opens₁} {decided₁} {k} k-liste
     settled j listed d (no different) = other j listed different d (ℕ_discrete (corner_at decided j) 0)
 
 -- So after a round the decision may be carried to other corners.
-pub may-carry-again : {n : ℕ} {xs ys : List ℕ} {way : Way} {side : HalfUnits} {Looked : ℕ → Type 0} {opens decided opens₁ decided₁ : List ℕ}
-    {k from : ℕ} {ok : Bool} → MayCarry n xs ys side opens decided k from
-    → CarriedOut (labels way side.0 n xs ys) Looked opens decided k ok opens₁ decided₁ → ok ≡ true
-    → MayCarry n xs ys side opens₁ decided₁ k from
+pub may-carry-again : {sites : List Place} {way : Way} {side : HalfUnits} {Looked : ℕ → Type 0} {opens decided opens₁ decided₁ : List ℕ}
+    {k from : ℕ} {ok : Bool} → MayCarry sites side opens decided k from
+    → CarriedOut (labels way side.0 sites) Looked opens decided k ok opens₁ decided₁ → ok ≡ true
+    → MayCarry sites side opens₁ decided₁ k from
 may-carry-again may out went =
     let round = out.carried went in
     record {
@@ -187,12 +188,12 @@ may-carry-again may out went =
       };
     }
 
-module _ {n : ℕ} {xs ys : List ℕ} {way : Way} {side : HalfUnits} {opens decided : List ℕ} {k from : ℕ}
-    (may : MayCarryOut n xs ys way side opens decided k from) where
+module _ {sites : List Place} {way : Way} {side : HalfUnits} {opens decided : List ℕ} {k from : ℕ}
+    (may : MayCarryOut sites way side opens decided k from) where
   -- By the usual way one round over the decided corner carries the decision out,
   pub carried-usual : {ok : Bool} {opens' decided' : List ℕ} → way ≡ Usual
-      → CarriedOut (labels way side.0 n xs ys) (Only (corner_at decided k)) opens decided k ok opens' decided'
-      → CarriedOut (labels way side.0 n xs ys) Every opens decided k ok opens' decided'
+      → CarriedOut (labels way side.0 sites) (Only (corner_at decided k)) opens decided k ok opens' decided'
+      → CarriedOut (labels way side.0 sites) Every opens decided k ok opens' decided'
   carried-usual is = carried-every (λ j e listed different is_open meets.
       same (subst (λ w. LookedAt w (corner_at decided k) e) is ((may.met_looked j listed different).looked e is_open meets)))
     where
@@ -201,9 +202,9 @@ module _ {n : ℕ} {xs ys : List ℕ} {way : Way} {side : HalfUnits} {opens deci
 
   -- and above the spot two rounds do, over corner 1 and over corner 2.
   pub carried-above : {went ok : Bool} {opens₁ decided₁ opens' decided' : List ℕ} → way ≡ Above
-      → CarriedOut (labels way side.0 n xs ys) (Only 1) opens decided k went opens₁ decided₁ → went ≡ true
-      → CarriedOut (labels way side.0 n xs ys) (Only 2) opens₁ decided₁ k ok opens' decided'
-      → CarriedOut (labels way side.0 n xs ys) Every opens decided k ok opens' decided'
+      → CarriedOut (labels way side.0 sites) (Only 1) opens decided k went opens₁ decided₁ → went ≡ true
+      → CarriedOut (labels way side.0 sites) (Only 2) opens₁ decided₁ k ok opens' decided'
+      → CarriedOut (labels way side.0 sites) Every opens decided k ok opens' decided'
   carried-above is first went second =
       carried-every (λ j e listed different is_open meets.
       among (open-corner opens j e is_open)

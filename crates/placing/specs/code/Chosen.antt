@@ -1,49 +1,56 @@
 -- What choosing hands back, as document 01 has it: the first good choice, or none.
 -- Assumes nothing.
-use Rattle.std.specs.Prelude.{◌≡◌, refl, Bool, true, false, List, ◌∷◌, ◌++◌, ℕ, zero, suc, ◌-◌, ◌≤◌, length, take, replicate}
+use Rattle.std.specs.Prelude.{◌≡◌, refl, Bool, true, false, Option, Some, None, is_some, List, ◌∷◌, ◌++◌, ℕ, zero, suc, ◌-◌, ◌≤◌, length, take, replicate}
 use Rattle.std.proofs.Common.{sym, ap, ◌∙◌, le_of_suc-le-suc, arith}
-use Rattle.std.proofs.Math.Option.{Option, some, none}
-use Rattle.placing.specs.declared.choice.Choice.{Choice}
-use Rattle.placing.specs.declared.choice.Chosen.{Chosen}
+use Rattle.std.proofs.Math.Option.{Option as Found, some, none}
 use Rattle.placing.specs.declared.units.Place.{Place}
 use Rattle.placing.specs.declared.way.Way.{Way}
 use Rattle.placing.specs.rules.Units.{most_sites, Distinct}
-use Rattle.placing.specs.rules.Choice.{First}
+use Rattle.placing.specs.rules.Choice.{SomeGood, First}
 use Rattle.placing.specs.deciding.Answer.{first_good}
 use Rattle.placing.specs.calls.Placing.{choice_as}
 use Rattle.placing.specs.theorems.Choice.{first-at-one}
-use Rattle.placing.specs.theorems.Answer.{NoneGood, first_good-some, first_found, none_found}
-use Rattle.placing.specs.code.Sites.{sites_of}
+use Rattle.placing.specs.theorems.Answer.{NoneGood, first_good-some, first_good-none, first_found, none_found}
 use Rattle.placing.specs.search.State.{Walked}
 use Rattle.placing.specs.search.Decided.{walk-solution, walk-none-before}
 use Rattle.placing.specs.code.Labels.{labels, good-solution, solution-good}
 use Rattle.placing.specs.code.Steps.{WalkedTo}
 
--- A list of corners, where an answer says yes.
-abbrev pub where_yes : Bool → List ℕ → Option (List ℕ)
-where_yes true cs = some cs
-where_yes false cs = none
-
 -- The corners of the n sites, where there are any.
-abbrev pub choice_in : ℕ → Chosen → Option (List ℕ)
-choice_in n r = where_yes r.ok (take n r.corners)
+abbrev pub choice_in : ℕ → Option (List ℕ) → Found (List ℕ)
+choice_in n (Some cs) = some (take n cs)
+choice_in n None = none
 
--- At the end of a walk the decisions of the n sites are the first good choice.
-decisions-first : (way : Way) (h n : ℕ) (xs ys opens decided : List ℕ) → n ≤ length decided → Walked (labels way h n xs ys) n opens decided
-    → First way h (sites_of n xs ys) (take n decided)
-decisions-first way h n xs ys opens decided few walked =
+-- At the end of a walk the decisions of the sites are the first good choice.
+decisions-first : (way : Way) (h : ℕ) (ps : List Place) (opens decided : List ℕ) → length ps ≤ length decided
+    → Walked (labels way h ps) (length ps) opens decided → First way h ps (take (length ps) decided)
+decisions-first way h ps opens decided few walked =
     record {
-      good = solution-good way h n xs ys (take n decided) (walk-solution walked few);
-      none_before = λ es good. walk-none-before walked few es (good-solution way h n xs ys es good);
+      good = solution-good way h ps (take (length ps) decided) (walk-solution walked few);
+      none_before = λ es good. walk-none-before walked few es (good-solution way h ps es good);
     }
 
--- A walk over all sites leaves the first good choice, or there is none.
-pub walked-choice : (way : Way) (h n : ℕ) (xs ys : List ℕ) (ok : Bool) (opens decided : List ℕ) → n ≤ most_sites
-    → WalkedTo (labels way h n xs ys) n ok opens decided → where_yes ok (take n decided) ≡ first_good way h (sites_of n xs ys)
-walked-choice way h n xs ys true opens decided few walked =
-    sym (first_found (decisions-first way h n xs ys opens decided (omega (arith, walked.sizes.decided_size)) (walked.walked refl)))
-walked-choice way h n xs ys false opens decided few walked =
-    sym (none_found (λ cs good. walked.no_solution refl cs (good-solution way h n xs ys cs good)))
+module _ {way : Way} {h : ℕ} {ps : List Place} {ok : Bool} {opens decided : List ℕ}
+    (walked : WalkedTo (labels way h ps) (length ps) ok opens decided) where
+  -- A walk over all sites leaves the first good choice,
+  pub walked_choice : length ps ≤ most_sites → ok ≡ true → choice_in (length ps) (Some decided) ≡ first_good way h ps
+  walked_choice few yes_ok =
+      sym (first_found (decisions-first way h ps opens decided (omega (arith, walked.sizes.decided_size)) (walked.walked yes_ok)))
+
+  -- or there is none.
+  pub walked_none : ok ≡ false → choice_in (length ps) None ≡ first_good way h ps
+  walked_none no_ok = sym (none_found (λ cs good. walked.no_solution no_ok cs (good-solution way h ps cs good)))
+
+module _ {way : Way} {h : ℕ} {ps : List Place} (n : ℕ) where
+  -- What choosing finds is good,
+  pub chosen_good : (chosen : Option (List ℕ)) → choice_in n chosen ≡ first_good way h ps → is_some chosen ≡ true → SomeGood way h ps
+  chosen_good (Some cs) is found = record { choice = take n cs; good = (first_good-some (sym is)).good }
+  chosen_good None is found = cc
+
+  -- and where it finds none there is no good choice.
+  pub chosen_none : (chosen : Option (List ℕ)) → choice_in n chosen ≡ first_good way h ps → is_some chosen ≡ false → NoneGood way h ps
+  chosen_none (Some cs) is found = cc
+  chosen_none None is found = first_good-none (sym is)
 
 -- ---- what choosing at a side hands back
 
@@ -55,28 +62,20 @@ take-ones (suc n) (suc k) few = ap (λ (l : List ℕ). 1 ∷ l) (take-ones n k (
 
 module _ (way : Way) (h : ℕ) (ps : List Place) where
   -- Where no good choice exists.
-  pub no-choice : NoneGood way h ps → record { exists = false; corners = replicate most_sites 0 } ≡ choice_as (first_good way h ps)
+  pub no-choice : NoneGood way h ps → None ≡ choice_as (first_good way h ps)
   no-choice none_good = sym (ap choice_as (none_found none_good))
 
   -- Where it is these corners.
-  choice-is : {n : ℕ} {cs first : List ℕ} → length ps ≡ n → first_good way h ps ≡ some cs → first ≡ cs ++ replicate (most_sites - n) 0
-      → record { exists = true; corners = first } ≡ choice_as (first_good way h ps)
-  choice-is {n} {cs} count made held =
-      let size : length cs ≡ n = (first_good-some made).good.corners.one_each ∙ count in
-      ap {B = Choice} (λ (l : List ℕ). record { exists = true; corners = l })
-      (held ∙ ap (λ (k : ℕ). cs ++ replicate (most_sites - k) 0) (sym size))
-      ∙ sym (ap choice_as made)
-
-  -- Where the walk has led to one.
-  pub choice-found : {n : ℕ} (chosen : Chosen) {first : List ℕ} → length ps ≡ n → choice_in n chosen ≡ first_good way h ps → chosen.ok ≡ true
-      → first ≡ take n chosen.corners ++ replicate (most_sites - n) 0
-      → record { exists = true; corners = first } ≡ choice_as (first_good way h ps)
-  choice-found {n} chosen count is ok = choice-is count (sym is ∙ ap (λ (b : Bool). where_yes b (take n chosen.corners)) ok)
+  pub choice-found : {cs first : List ℕ} → first_good way h ps ≡ some cs → first ≡ cs ++ replicate (most_sites - length ps) 0
+      → Some first ≡ choice_as (first_good way h ps)
+  choice-found {cs} made held =
+      let size : length cs ≡ length ps = (first_good-some made).good.corners.one_each in
+      ap Some (held ∙ ap (λ (k : ℕ). cs ++ replicate (most_sites - k) 0) (sym size)) ∙ sym (ap choice_as made)
 
   -- Up to side 1, where it is corner 1 everywhere.
-  pub ones-found : {n : ℕ} {first : List ℕ} → h ≤ 1 → Distinct ps → length ps ≡ n → n ≤ most_sites
-      → first ≡ take n (replicate most_sites 1) ++ replicate (most_sites - n) 0
-      → record { exists = true; corners = first } ≡ choice_as (first_good way h ps)
-  ones-found {n} small distinct count few held =
-      choice-is count (first_found (first-at-one small distinct) ∙ ap (λ (k : ℕ). some (replicate k 1)) count)
-      (held ∙ ap (λ (l : List ℕ). l ++ replicate (most_sites - n) 0) (take-ones n most_sites few))
+  pub ones-found : {first : List ℕ} → h ≤ 1 → Distinct ps → length ps ≤ most_sites
+      → first ≡ take (length ps) (replicate most_sites 1) ++ replicate (most_sites - length ps) 0
+      → Some first ≡ choice_as (first_good way h ps)
+  ones-found small distinct few held =
+      choice-found (first_found (first-at-one small distinct))
+      (held ∙ ap (λ (l : List ℕ). l ++ replicate (most_sites - length ps) 0) (take-ones (length ps) most_sites few))

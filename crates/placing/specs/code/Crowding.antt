@@ -38,14 +38,14 @@ reach-allows reach =
       shuts = λ h inside passed allowed. not-crowded allowed (reach.crowds h inside passed);
     }
 
--- The array has the reaches of the first n sites for sides up to the top.
-pub record ReachesAre (way : Way) (ps : List Place) (n : ℕ) (crowding : Crowding) : Type 0 where
-  pub at_corner : (i c : ℕ) → i < n → Corner c → AllowedWithin way ps crowding.top.0 i c (reach_at crowding.reaches i c)
+-- The array has the reaches of the sites for sides up to the top.
+pub record ReachesAre (way : Way) (ps : List Place) (crowding : Crowding) : Type 0 where
+  pub at_corner : (i c : ℕ) → i < length ps → Corner c → AllowedWithin way ps crowding.top.0 i c (reach_at crowding.reaches i c)
 
 -- It has, and above the top no side up to `most` has a good choice.
-pub record CrowdingIs (way : Way) (most : ℕ) (ps : List Place) (n : ℕ) (crowding : Crowding) : Type 0 where
+pub record CrowdingIs (way : Way) (most : ℕ) (ps : List Place) (crowding : Crowding) : Type 0 where
   pub judged : crowding.top.0 ≤ most
-  pub reaches : ReachesAre way ps n crowding
+  pub reaches : ReachesAre way ps crowding
   pub none_above : NoneFrom way most ps (crowding.top.0 + 1)
 
 -- None of the first e reaches of site i is further than this.
@@ -122,12 +122,12 @@ crowding-more listed so_far over leaves =
     }
 
 -- Over all rows they are the list's.
-pub crowding-all : {most : ℕ} {ps : List Place} {n k : ℕ} {reaches : List ℕ} (top : HalfUnits) → length ps ≡ n → n ≤ k
-    → CrowdingOver most ps k reaches top.0 → CrowdingIs Usual most ps n (record { reaches = reaches; top = top })
-crowding-all top count all so_far =
+pub crowding-all : {most : ℕ} {ps : List Place} {k : ℕ} {reaches : List ℕ} (top : HalfUnits) → length ps ≤ k
+    → CrowdingOver most ps k reaches top.0 → CrowdingIs Usual most ps (record { reaches = reaches; top = top })
+crowding-all top all so_far =
     record {
       judged = so_far.judged;
-      reaches = record { at_corner = λ i c listed corner. reach-allows (over-rows (omega arith) so_far.over i c (omega arith) corner) };
+      reaches = record { at_corner = λ i c listed corner. reach-allows (over-rows all so_far.over i c listed corner) };
       none_above = so_far.none_above;
     }
 
@@ -144,8 +144,8 @@ UpperBelow furthest k reaches = Filled 0 (UpperReach furthest) 0 k (replicate (4
 
 -- With all of them written, corners 1 and 2 are allowed at every side up to `most`, which is the top.
 pub crowding-above : {n furthest k : ℕ} {reaches : List ℕ} (most : HalfUnits) → furthest ≡ 2 * most.0 → 4 * n ≤ k
-    → UpperBelow furthest k reaches → (ps : List Place) → CrowdingIs Above most.0 ps n (record { reaches = reaches; top = most })
-crowding-above {n} {furthest} {k} {reaches} most double all filled ps =
+    → UpperBelow furthest k reaches → (ps : List Place) → length ps ≡ n → CrowdingIs Above most.0 ps (record { reaches = reaches; top = most })
+crowding-above {n} {furthest} {k} {reaches} most double all filled ps count =
     record {
       judged = omega arith;
       reaches = record { at_corner = λ i c listed corner. within i c corner (filled_front filled (index_of i c) (omega arith)) (dec_le c 2) };

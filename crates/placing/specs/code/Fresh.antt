@@ -1,6 +1,6 @@
 -- The bytes of a state before anything is decided: which corners are open at a side, by their reaches.
 -- Assumes nothing.
-use Rattle.std.specs.Prelude.{◌≡◌, refl, List, ℕ, ◌*◌, ◌≤◌, ◌<◌, get_or, replicate}
+use Rattle.std.specs.Prelude.{◌≡◌, refl, List, ℕ, ◌*◌, ◌≤◌, ◌<◌, length, get_or, replicate}
 use Rattle.std.proofs.Math.Decide.{dec_le}
 use Rattle.std.proofs.Common.{arith}
 use Rattle.std.proofs.lemmas.List.{get_or-replicate}
@@ -13,7 +13,6 @@ use Rattle.placing.specs.rules.Corner.{Corner}
 use Rattle.placing.specs.rules.Choice.{Allowed}
 use Rattle.placing.specs.search.Rows.{index_of, row_of, row_at, open-corner}
 use Rattle.placing.specs.search.State.{Fresh}
-use Rattle.placing.specs.code.Sites.{sites_of}
 use Rattle.placing.specs.code.Labels.{labels}
 use Rattle.placing.specs.code.Filled.{Filled, filled_front}
 use Rattle.placing.specs.code.Pairs.{reach_at}
@@ -33,8 +32,8 @@ OpenedBelow crowding side k opens =
 -- The state at a side before anything is decided, for every n sites that have these reaches.
 pub record FreshState (crowding : Crowding) (n : ℕ) (side : HalfUnits) (opens decided : List ℕ) : Type 0 where
   pub sizes : Sizes opens decided
-  pub fresh : (way : Way) (xs ys : List ℕ) → 1 ≤ side.0 → side.0 ≤ crowding.top.0 → ReachesAre way (sites_of n xs ys) n crowding
-      → Fresh (labels way side.0 n xs ys) opens decided
+  pub fresh : (way : Way) (ps : List Place) → length ps ≡ n → 1 ≤ side.0 → side.0 ≤ crowding.top.0 → ReachesAre way ps crowding
+      → Fresh (labels way side.0 ps) opens decided
 
 module _ {way : Way} {ps : List Place} {top side i c reach byte : ℕ} (inside : side ≤ top) (known : AllowedWithin way ps top i c reach)
     (byte-is : OpenByte reach side byte) where
@@ -56,16 +55,16 @@ pub fresh-all : {crowding : Crowding} {n : ℕ} {side : HalfUnits} {opens : List
 fresh-all {crowding} {n} {side} {opens} few opened =
     record {
       sizes = record { opens_size = opened.size; decided_size = refl };
-      fresh = λ way xs ys least inside known.
+      fresh = λ way ps count least inside known.
           record {
             candidate = λ i c listed one.
                 let corner = open-corner opens i c one in
                 record {
                   corner = corner;
-                  allowed = open_allowed inside (known.at_corner i c listed corner) (byte_at i c listed corner) least one;
+                  allowed = open_allowed inside (known.at_corner i c listed corner) (byte_at i c (rw count at listed) corner) least one;
                 };
             all_open = λ i c listed candidate.
-                allowed_open inside (known.at_corner i c listed candidate.corner) (byte_at i c listed candidate.corner)
+                allowed_open inside (known.at_corner i c listed candidate.corner) (byte_at i c (rw count at listed) candidate.corner)
                 candidate.allowed;
             undecided = λ i listed. get_or-replicate most_sites i 0 0 (omega arith);
           };

@@ -1,13 +1,13 @@
 -- The lent table in which a trial marks the sites whose decisions have been carried out: what marking the decided sites has done by
 -- the time it comes to a site, what holds where no site waits, and how many sites have no mark yet.
 -- Assumes nothing.
-use Rattle.std.specs.Prelude.{◌≡◌, refl, List, ◌≢◌, cond, ℕ, zero, suc, ◌+◌, ◌-◌, ◌≤◌, ◌<◌, eqb, length, get_or, set, drop}
-use Rattle.std.proofs.Common.{sym, ap, ◌∙◌, not-suc-le-zero, arith, ne_eqb, length-set, get_or-set_same, get_or-set_other, drop-set-lt, drop-drop}
+use Rattle.std.specs.Prelude.{◌≡◌, refl, List, ◌≢◌, cond, ℕ, zero, suc, ◌+◌, ◌≤◌, ◌<◌, eqb, length, get_or, set}
+use Rattle.std.proofs.Common.{sym, ◌∙◌, not-suc-le-zero, arith, ne_eqb, get_or-set_same, get_or-set_other}
 use mathlib.Core.HLevel.{dec→stable}
 use Rattle.std.proofs.Math.Decide.{ℕ_discrete}
 use Rattle.placing.specs.rules.Choice.{corner_at}
 use Rattle.placing.specs.code.Filled.{Filled, filled_front}
-use Rattle.placing.specs.code.Steps.{Done, FirstWaiting, Kept, mark_of, Marked}
+use Rattle.placing.specs.code.Steps.{Done, FirstWaiting, mark_of, Marked}
 
 -- The marks of the sites below j are written over a table.
 abbrev pub MarkedBelow : (decided table : List ℕ) (j : ℕ) (marks : List ℕ) → Type 0
@@ -52,26 +52,6 @@ mark-stays {k} marks j here done = from (ℕ_discrete j k)
     from : Dec (j ≡ k) → Done (set marks k 1) j
     from (yes p) = rw p (get_or-set_same marks k 1 0 here)
     from (no d) = get_or-set_other marks k j 1 0 d ∙ done
-
--- A table is kept as it is.
-pub kept_same : {n : ℕ} {table : List ℕ} → Kept n table table
-kept_same = record { size = refl; rest = refl }
-
--- Writing below n keeps a table.
-pub kept_set : {n k : ℕ} {table marks : List ℕ} (v : ℕ) → k < n → Kept n table marks → Kept n table (set marks k v)
-kept_set {n} {k} {table} {marks} v below kept =
-    record { size = length-set marks k v ∙ kept.size; rest = drop-set-lt n marks k v below ∙ kept.rest }
-
--- What is kept twice is kept.
-pub kept-twice : {n : ℕ} {table marks later : List ℕ} → Kept n table marks → Kept n marks later → Kept n table later
-kept-twice one other = record { size = other.size ∙ one.size; rest = other.rest ∙ one.rest }
-
--- A table that is kept from n on is kept from m on, further up.
-pub kept-further : {n : ℕ} {table later : List ℕ} (m : ℕ) → n ≤ m → Kept n table later → drop m later ≡ drop m table
-kept-further {n} {table} {later} m past kept =
-    let split : n + (m - n) ≡ m = omega arith in
-    ap (λ (k : ℕ). drop k later) (sym split) ∙ sym (drop-drop (m - n) n later) ∙ ap (drop (m - n)) kept.rest
-    ∙ drop-drop (m - n) n table ∙ ap (λ (k : ℕ). drop k table) split
 
 -- Where no site waits, every decided one is marked.
 pub none-waits-marked : {decided marks : List ℕ} {n : ℕ} → FirstWaiting decided marks n n

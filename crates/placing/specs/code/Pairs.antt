@@ -1,7 +1,7 @@
 -- The reaches of all sites, in one array: each pair of sites is gone over once, and the two lower each other's reaches.
 -- Assumes nothing.
 use Rattle.std.specs.Prelude.{◌≡◌, List, ◌≢◌, ◌⊎◌, ℕ, ◌+◌, ◌-◌, ◌*◌, ◌≤◌, ◌<◌, min, max, length, get_or, replicate}
-use Rattle.std.proofs.Common.{sym, ap, subst, subst₂, ◌∙◌, inl, inr, le_trans, arith}
+use Rattle.std.proofs.Common.{ap, subst, ◌∙◌, inl, inr, le_trans, arith}
 use Rattle.std.proofs.Math.Decide.{ℕ_discrete, dec_lt}
 use Rattle.std.proofs.lemmas.List.{length-replicate, get_or-replicate}
 use Rattle.placing.specs.declared.units.HalfUnits.{HalfUnits}
@@ -10,7 +10,7 @@ use Rattle.placing.specs.rules.Units.{most_sites, site_at, OnPlan}
 use Rattle.placing.specs.rules.Corner.{Corner}
 use Rattle.placing.specs.search.Rows.{index_of}
 use Rattle.placing.specs.code.Filled.{Filled, filled-elsewhere}
-use Rattle.placing.specs.code.Sites.{Judged, site_in, sites_of, length-sites, site-at}
+use Rattle.placing.specs.code.Sites.{Judged}
 use Rattle.placing.specs.code.Reach.{distance_between, distance-symmetric, Lowered, ReachIs, ReachOver, over_fewer, over_lowered, over_far, over-all}
 
 -- The reach of corner c of site i, in half units, off the array of all.
@@ -162,15 +162,6 @@ module _ {ps : List Place} {top i j : ℕ} {before after : List ℕ} (later : i 
       by-site a c there corner (no not-i) (no not-j) =
           rw (unseen a c not-i not-j corner pair)
           (over_fewer (over.at_corner a c there corner) (λ b b_there different passed. not_seen later a b not-i not-j passed))
-
--- The same of sites that are held in two lists.
-pub over-next : (xs ys : List ℕ) {n top i j : ℕ} {s t : Place} {before after : List ℕ} → i < j → j < n → s ≡ site_in xs ys i → t ≡ site_in xs ys j
-    → ReachesOver (sites_of n xs ys) top (PairsBelow i j) before → PairLowered top i s j t before after
-    → ReachesOver (sites_of n xs ys) top (PairsBelow i (j + 1)) after
-over-next xs ys {n} {top} {i} {j} {s} {t} {before} {after} later listed s-is t-is over pair =
-    over-pair later (rw length-sites listed) over
-    (subst₂ (λ (p q : Place). PairLowered top i p j q before after) (s-is ∙ sym (site-at n xs ys i (omega arith)))
-    (t-is ∙ sym (site-at n xs ys j listed)) pair)
 
 -- ---- rows
 

@@ -1,21 +1,20 @@
 -- The state of a search as a trial holds it: 960 bytes, four for each site, 1 where the corner is open, and 240 bytes with the
 -- decided corners, 0 for none. What one step of the code does to them, for the laws of specs/search/Trial and specs/search/Walk to use.
 -- Assumes nothing.
-use Rattle.std.specs.Prelude.{◌≡◌, refl, Bool, true, false, List, ◌≢◌, ◌⊎◌, ℕ, zero, suc, ◌+◌, ◌*◌, ◌≤◌, ◌<◌, length, get_or, drop}
+use Rattle.std.specs.Prelude.{◌≡◌, refl, Bool, true, false, List, ◌≢◌, ◌⊎◌, ℕ, zero, suc, ◌+◌, ◌*◌, ◌≤◌, ◌<◌, length, get_or}
 use Rattle.std.proofs.Math.Decide.{dec_le}
 use Rattle.std.proofs.Common.{arith}
 use Rattle.placing.specs.declared.geometry.Label.{Label}
 use Rattle.placing.specs.declared.trial.Left.{Left}
 use Rattle.placing.specs.declared.trial.Left.TheVariants.{Nothing, One, More}
 use Rattle.placing.specs.declared.units.Place.{Place}
-use Rattle.placing.specs.rules.Units.{most_sites}
+use Rattle.placing.specs.rules.Units.{most_sites, site_at}
 use Rattle.placing.specs.rules.Corner.{directions_of}
 use Rattle.placing.specs.rules.Label.{Meet}
 use Rattle.placing.specs.rules.Choice.{corner_at}
 use Rattle.placing.specs.search.Problem.{Problem, Solution}
 use Rattle.placing.specs.search.Rows.{row_of, row_zero, open-corner}
 use Rattle.placing.specs.search.State.{SomeOpen, CarriedTo, Carried, Stuck, Closed, Later, Refused, Walked}
-use Rattle.placing.specs.code.Sites.{site_in}
 
 -- A byte for each corner of each site, and one for each site.
 pub record Sizes (opens decided : List ℕ) : Type 0 where
@@ -115,9 +114,9 @@ abbrev pub label_at : Place → ℕ → Label
 label_at s c = record { site = s; toward = directions_of c }
 
 -- The labels of two sites at corners c and e meet.
-pub record Clash (side : ℕ) (xs ys : List ℕ) (k c j e : ℕ) : Type 0 where
+pub record Clash (side : ℕ) (sites : List Place) (k c j e : ℕ) : Type 0 where
   pub different : j ≢ k
-  pub meets : Meet side 1 (site_in xs ys k) c (site_in xs ys j) e
+  pub meets : Meet side 1 (site_at sites k) c (site_at sites j) e
 
 -- The decision of site k was carried to site j. Where j is k, nothing is to be done.
 pub record CarriedThere (P : Problem) (Looked : ℕ → Type 0) (opens decided : List ℕ) (k j : ℕ) (ok : Bool) (opens' decided' : List ℕ) : Type 0 where
@@ -150,11 +149,6 @@ pub record FirstWaiting (decided marks : List ℕ) (n k : ℕ) : Type 0 where
   pub at_most : k ≤ n
   pub found : k < n → Waits decided marks k
   pub none_before : (j : ℕ) → j < k → Waits decided marks j → ⊥
-
--- The bytes of a lent table from n on are as they were, and so is its length.
-pub record Kept (n : ℕ) (table table' : List ℕ) : Type 0 where
-  pub size : length table' ≡ length table
-  pub rest : drop n table' ≡ drop n table
 
 -- The mark of a site by its decided corner: 1 where it has one.
 abbrev pub mark_of : ℕ → ℕ

@@ -2,8 +2,12 @@
 -- Assumes nothing.
 use Rattle.std.specs.Prelude.{◌≡◌, refl, Bool, true, false, not, ◌&&◌, List, ◌≢◌, ◌⊎◌, ℕ, zero, suc, ◌-◌, ◌*◌, ◌≤◌, ◌<◌, max, leb, ltb, eqb, length}
 use Rattle.std.proofs.Common.{sym, ap, subst, ◌∙◌, inl, inr, ⊎_elim, mul-le-mul_right, arith, leb-true, leb-false, eqb-true}
+use Rattle.std.specs.Ordering.{is_lt, is_le, nat_cmp}
 use Rattle.std.proofs.Math.Decide.{ℕ_discrete, dec_le}
 use Rattle.std.proofs.lemmas.Bool.{eqb-false}
+use Rattle.std.proofs.lemmas.Bool.Decides.{nat_tests}
+use denote.Enum.Bare.{sameb}
+use Rattle.placing.specs.contracts.corner.Direction.{the_type}
 use Rattle.placing.specs.declared.units.Growth.{Growth}
 use Rattle.placing.specs.declared.units.Growth.TheVariants.{UpTo, Never}
 use Rattle.placing.specs.declared.units.HalfUnits.{HalfUnits}
@@ -30,6 +34,19 @@ lt-decides a b = le-decides (suc a) b
 
 pub eq-decides : (a b : ℕ) → Decides (eqb a b) (a ≡ b)
 eq-decides a b = record { yes_holds = eqb-true a b; no_fails = eqb-false a b }
+
+-- So do `<` and `<=` on units, whose order is derived from that of their numbers.
+less-is : (a b : ℕ) → is_lt (nat_cmp a b) ≡ ltb a b
+less-is a b = grind (arith, nat_tests)
+
+at_most-is : (a b : ℕ) → is_le (nat_cmp a b) ≡ leb a b
+at_most-is a b = grind (arith, nat_tests)
+
+pub less-decides : {answer : Bool} (a b : ℕ) → answer ≡ is_lt (nat_cmp a b) → Decides answer (a < b)
+less-decides a b says = rw (says, less-is a b) (lt-decides a b)
+
+pub at_most-decides : {answer : Bool} (a b : ℕ) → answer ≡ is_le (nat_cmp a b) → Decides answer (a ≤ b)
+at_most-decides a b says = rw (says, at_most-is a b) (le-decides a b)
 
 -- So do both of two tests, and a test turned round.
 pub both-decide : {a b : Bool} {A B : Type 0} → Decides a A → Decides b B → Decides (a && b) (A × B)
@@ -145,14 +162,21 @@ same-or-opposite Up Down = inr refl
 same-or-opposite Down Up = inr refl
 same-or-opposite Down Down = inl refl
 
+-- Two directions that `==` finds unlike are opposite.
+pub unlike-opposite : {same : Bool} (d e : Direction) → same ≡ sameb the_type d e → same ≡ false → opposite d ≡ e
+unlike-opposite Up Up says unlike = absurd (cc)
+unlike-opposite Up Down says unlike = refl
+unlike-opposite Down Up says unlike = refl
+unlike-opposite Down Down says unlike = absurd (cc)
+
 abbrev pub onward_test : Direction → ℕ → ℕ → Bool
 onward_test Up a b = leb a b
 onward_test Down a b = leb b a
 
-up-ordered : {a b : ℕ} → Onward Up a b → a ≤ b
+pub up-ordered : {a b : ℕ} → Onward Up a b → a ≤ b
 up-ordered (upward ordered) = ordered
 
-down-ordered : {a b : ℕ} → Onward Down a b → b ≤ a
+pub down-ordered : {a b : ℕ} → Onward Down a b → b ≤ a
 down-ordered (downward ordered) = ordered
 
 pub onward-decides : (d : Direction) (a b : ℕ) → Decides (onward_test d a b) (Onward d a b)

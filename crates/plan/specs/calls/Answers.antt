@@ -9,7 +9,6 @@ use Rattle.placing.specs.rules.Answer.{Answer, side_number}
 use Rattle.placing.specs.deciding.Answer.{answer_of, chosen_at}
 use Rattle.plan.specs.declared.refusal.Refusal.{Refusal}
 use Rattle.plan.specs.declared.plan.Plan.{Plan}
-use Rattle.plan.specs.declared.plan.Planned.{Planned}
 use Rattle.plan.specs.rules.Refusal.{number_of, Result, accepted, refused, after_tests}
 use Rattle.plan.specs.rules.List.{Site, places_of, entered, wanted_at}
 use Rattle.plan.specs.deciding.Output.{sheet_at, exists_at}
@@ -31,6 +30,11 @@ AskedCorner = rattle.Result ℕ Refusal
 
 abbrev pub Written : Type 0
 Written = rattle.Result ℕ Refusal
+
+-- What entering, reading and choosing come to: the answer, and the plan afterwards.
+pub record Planned : Type 0 where
+  pub outcome : Outcome
+  pub plan : Plan
 
 -- ---- for each case the number of documents 01 and 02, 0 where the call is accepted, and the value it carries
 

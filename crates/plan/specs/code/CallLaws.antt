@@ -1,6 +1,7 @@
 -- The answers of the calls, test by test.
 -- Assumes nothing.
-use Rattle.std.specs.Prelude.{◌≡◌, refl, true, false, List, [], ◌∷◌, ℕ, ◌≤◌, ◌<◌, length, get_or, Ok, Err}
+use Rattle.std.specs.Prelude.{◌≡◌, refl, true, false, List, [], ◌∷◌, ℕ, ◌≤◌, ◌<◌, length, get_or, IsErrAnd, Ok, Err}
+use Rattle.std.specs.Prelude as rattle
 use Rattle.std.proofs.Common.{sym, ap, ◌∙◌, subst, arith}
 use Rattle.std.proofs.Math.Option.{Option, some, none}
 use borrow.Author.Tests.{le-leb, lt-leb}
@@ -12,7 +13,6 @@ use Rattle.placing.specs.theorems.Given.{chosen_is}
 use Rattle.plan.specs.declared.refusal.Refusal.{Refusal}
 use Rattle.plan.specs.declared.refusal.Refusal.TheVariants as why
 use Rattle.plan.specs.declared.plan.Plan.{Plan}
-use Rattle.plan.specs.declared.plan.Planned.{Planned}
 use Rattle.plan.specs.rules.Refusal.{first_refusal, number_by, Result, accepted, refused, unless}
 use Rattle.plan.specs.rules.List.{Site, places_of, Listed}
 use Rattle.plan.specs.rules.Calls.{finding_tests, choosing_tests, before_choice, no_good, cleared, bytes_after}
@@ -29,7 +29,9 @@ use Rattle.plan.specs.calls.Answers.{
   table_chosen,
   side_asked,
   corner_asked,
+  Outcome,
   AskedSide,
+  Planned,
 }
 use Rattle.plan.specs.Demands.{FindTold, ChooseTold}
 use Rattle.plan.specs.theorems.Tables.{first-early, first-late}
@@ -41,6 +43,16 @@ use Rattle.plan.specs.theorems.Calls.{find-told, choose-told}
 -- A refusal with this plan.
 abbrev pub refusal-of : Plan → Refusal → Planned
 refusal-of plan why = record { outcome = Err why; plan = plan }
+
+-- A refusal that is handed on is the same one,
+pub handed-on : {A : Type 0} {why : Refusal} {r : rattle.Result A Refusal} → IsErrAnd r (λ other. other ≡ why) → r ≡ Err why
+handed-on {r = Err other} same = ap Err same
+handed-on {r = Ok value} never = absurd never
+
+-- with whatever plan.
+pub handed-back : {why : Refusal} {r : Outcome} (plan : Plan) → IsErrAnd r (λ other. other ≡ why)
+    → ◌≡◌ {A = Planned} (record { outcome = r; plan = plan }) (refusal-of plan why)
+handed-back plan same = ap {B = Planned} (λ (o : Outcome). record { outcome = o; plan = plan }) (handed-on same)
 
 -- Refused, a call hands back the plan as it came.
 pub refuses : {plan : Plan} {why : Refusal} {r : Planned} {sites : Result (List Site)} → Valid plan → r ≡ refusal-of plan why
@@ -80,9 +92,9 @@ module _ (plan : Plan) (way : Way) (table : List ℕ) where
       (found, (left_so, find-told plan way table found left_so))
 
   -- Refused, finding changes nothing.
-  pub find-refuses : {why : Refusal} → first_refusal (finding_tests plan.count (length table)) ≡ some why
-      → FindPromised plan way table (Err why) table
-  find-refuses {why} is = find-promised (some why) is refl refl
+  pub find-refuses : {why : Refusal} {r : AskedSide} → first_refusal (finding_tests plan.count (length table)) ≡ some why → r ≡ Err why
+      → FindPromised plan way table r table
+  find-refuses {why} is r-is = find-promised (some why) is r-is refl
 
   -- Accepted, it tells the side and has cleared the table.
   pub find-accepts : {side : Side} {left : List ℕ} → first_refusal (finding_tests plan.count (length table)) ≡ none

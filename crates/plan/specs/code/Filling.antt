@@ -14,7 +14,6 @@ use Rattle.placing.specs.rules.Answer.{is_side}
 use Rattle.placing.specs.deciding.Answer.{answer_of, chosen_at}
 use Rattle.placing.specs.theorems.Given.{found-chosen}
 use Rattle.plan.specs.declared.plan.Plan.{Plan}
-use Rattle.plan.specs.declared.plan.Planned.{Planned}
 use Rattle.plan.specs.declared.refusal.Refusal.{Refusal}
 use Rattle.plan.specs.declared.refusal.Refusal.TheVariants.{BadNumber, NoSites, NotPlaced, ShortBuffer, NoGoodChoice}
 use Rattle.plan.specs.rules.Refusal.{number_of, ◌gives◌, first_refusal, number_by, Result, accepted, refused, unless, after, after_tests}
@@ -44,6 +43,7 @@ use Rattle.plan.specs.calls.Answers.{
   list_placed_at,
   Written,
   Outcome,
+  Planned,
 }
 use Rattle.plan.specs.Demands.{WriteTold, SheetWritten}
 use Rattle.plan.specs.theorems.Reading.{reads-are, read-listed}
@@ -148,13 +148,15 @@ outcome_of p = p.outcome
 
 -- Where reading is refused, so is the list.
 pub reading-refused : (way : Way) (text : List ℕ) {listed : Planned} {why : Refusal} → listed ≡ read_from text
-    → listed.outcome ≡ Err why → listed ≡ list_placed way text
-reading-refused way text {listed} {why} listed-is is = listed-is ∙ by-sites (read_list text) (ap outcome_of (sym listed-is) ∙ is)
+    → listed.outcome ≡ Err why → refusal-of listed.plan why ≡ list_placed way text
+reading-refused way text {listed} {why} listed-is is =
+    subst (λ (p : Planned). refusal-of p.plan why ≡ list_placed way text) (sym listed-is)
+    (by-sites (read_list text) (ap outcome_of (sym listed-is) ∙ is))
   where
     by-sites : (sites : Result (List Site)) → (handed unplaced_plan started sites).outcome ≡ Err why
-        → handed unplaced_plan started sites ≡ handed (placed_plan way) started (to_place sites)
+        → refusal-of (handed unplaced_plan started sites).plan why ≡ handed (placed_plan way) started (to_place sites)
     by-sites (accepted sites) is = let z : ◌≡◌ {A = ℕ} 0 1 = cc in absurd (omega arith)
-    by-sites (refused other) is = refl
+    by-sites (refused other) is = let same : why ≡ other = cc in ap (refusal-of started) same
 
 -- A table of 57,600 bytes is enough for the sites of every plan.
 enough : {sites : List Site} (text table : List ℕ) → length table ≡ full_table → read_list text ≡ accepted sites
@@ -229,15 +231,17 @@ side-refused-at way side text given = rw given
 module _ (way : Way) (side : Side) (given : is_side side ≡ true) (text : List ℕ) where
   -- Where reading is refused, so is the list.
   pub reading-refused-at : {listed : Planned} {why : Refusal} → listed ≡ read_from text → listed.outcome ≡ Err why
-      → listed ≡ list_placed_at way side text
-  reading-refused-at {listed} {why} listed-is is = rw given (listed-is ∙ by-sites (read_list text) (ap outcome_of (sym listed-is) ∙ is))
+      → refusal-of listed.plan why ≡ list_placed_at way side text
+  reading-refused-at {listed} {why} listed-is is =
+      rw given
+      (ap (λ (p : Planned). refusal-of p.plan why) listed-is ∙ by-sites (read_list text) (ap outcome_of (sym listed-is) ∙ is))
     where
       by-sites : (sites : Result (List Site)) → (handed unplaced_plan started sites).outcome ≡ Err why
-          → handed unplaced_plan started sites
+          → refusal-of (handed unplaced_plan started sites).plan why
           ≡ handed (placed_at way side) started
           (after sites (λ l. after_tests (no_sites (length l) ∷ no_good (exists_at way side l) ∷ []) l))
       by-sites (accepted sites) is = let z : ◌≡◌ {A = ℕ} 0 1 = cc in absurd (omega arith)
-      by-sites (refused other) is = refl
+      by-sites (refused other) is = let same : why ≡ other = cc in ap (refusal-of started) same
 
   -- So, with a table that is long enough, the list is placed,
   module _ {listed chosen : Planned} (table : List ℕ) (size : length table ≡ full_table) (listed-is : listed ≡ read_from text)

@@ -1,31 +1,42 @@
--- Laws on finding a byte in a text from a place on: the end of a line and the ends of its fields.
+-- Laws on the line that starts at a place in a text: its end, its fields, and entering it.
 -- Assumes nothing.
-use Rattle.std.specs.Prelude.{◌≡◌, true, ◌≢◌, List, [], ◌∷◌, ◌++◌, ℕ, suc, ◌+◌, ◌-◌, ◌≤◌, ◌<◌, length, get_or, take, drop}
-use Rattle.std.proofs.Common.{sym, ap, ap₂, ◌∙◌, subst, ⊎_elim, eq-or-lt_of_le, add-one, arith, length-append, length-drop, take-append-drop, drop-cons, drop-drop, get_or-drop, get_or-take, length-take-le, take_all, ne_eqb}
-use Rattle.std.proofs.Math.Nat.{sub-zero}
+use Rattle.std.specs.Prelude.{◌≡◌, Bool, true, false, ◌≢◌, List, [], ◌∷◌, ◌++◌, ℕ, suc, ◌+◌, ◌-◌, ◌≤◌, ◌<◌, length, get_or, take, drop, Option, Some, None, Ok, Err}
+use Rattle.std.specs.List.{AllWithin, HoldsAt, slice_split}
+use Rattle.std.proofs.Common.{sym, ap, ap₂, ◌∙◌, subst, add-one, arith, length-append, length-drop, take-append-drop, drop-cons, drop-drop, get_or-drop, get_or-take, length-take-le, ne_eqb, le-ltb, lt-ltb}
+use Rattle.std.proofs.Math.Path.{refl}
 use Rattle.std.proofs.Math.Decide.{dec_lt}
 use Rattle.std.proofs.Math.Seq.{get_or-append_seam}
-use Rattle.plan.specs.declared.list.LineRead.{LineRead}
-use Rattle.plan.specs.rules.Text.{tab, line_feed, Without, fields_of}
-use Rattle.plan.specs.rules.List.{most_line_bytes, TextLine, FirstLine, with_feed}
-use Rattle.plan.specs.theorems.Text.{parted-one, parted-more, parted-some}
-use Rattle.plan.specs.theorems.Reading.{first-line-whole}
-use Rattle.plan.specs.code.Line.{NoByte, between, FieldEnd, line_at, LineAt, LineReads, NoFields}
+use Rattle.std.proofs.lemmas.Iterator.{YieldsList}
+use Rattle.plan.specs.declared.plan.Plan.{Plan}
+use Rattle.plan.specs.declared.plan.SiteRead.{SiteRead}
+use Rattle.plan.specs.declared.refusal.Refusal.{Refusal}
+use Rattle.plan.specs.declared.refusal.Refusal.TheVariants.{BadLine}
+use Rattle.plan.specs.rules.Refusal.{Result, accepted, refused}
+use Rattle.plan.specs.rules.Text.{tab, line_feed, Without, with_first, parted, fields_of}
+use Rattle.plan.specs.rules.List.{Site, entered, most_line_bytes, TextLine, FirstLine, with_feed, line_entered}
+use Rattle.plan.specs.deciding.Reading.{cut_line}
+use Rattle.plan.specs.calls.Plan.{unplaced_plan, sites_in}
+use Rattle.plan.specs.calls.Answers.{Planned, handed}
+use Rattle.plan.specs.theorems.Reading.{first-line-whole, cut-first-line}
+use Rattle.plan.specs.code.Entering.{wanted_read}
+use Rattle.plan.specs.code.Line.{NoByte, between, line_at, LineAt, LineEnds, entered_fields, FieldsRead, LineEntered, line_refused, line_accepted}
 
 -- ---- the bytes up to a byte
 
--- No byte is passed at first,
-pub no-byte-starts : (b : ℕ) (text : List ℕ) (at : ℕ) → at ≤ length text → NoByte b text at at
-no-byte-starts b text at inside = record { after = omega arith; within = inside; passed = λ i from to. absurd (omega arith) }
-
--- and then one more that is another.
-pub no-byte-on : {b : ℕ} {text : List ℕ} {at end : ℕ} → NoByte b text at end → end < length text → get_or text end 0 ≢ b
-    → NoByte b text at (end + 1)
-no-byte-on {end = end} so_far inside other =
+-- The bytes of a text from a place on, at most k of them, before which none is this one.
+pub no-byte-before : {b : ℕ} {text : List ℕ} {at : ℕ} (k n : ℕ) → at ≤ length text → n ≤ length (take k (drop at text))
+    → AllWithin (λ c. c ≢ b) (take k (drop at text)) 0 n → NoByte b text at (at + n)
+no-byte-before {text = text} {at = at} k n inside few none =
+    let size = length-drop at text in
+    let taken = length-take k (drop at text) in
     record {
       after = omega arith;
       within = omega arith;
-      passed = λ i from to. ⊎_elim (λ (last : i ≡ end). rw last other) (so_far.passed i from) (eq-or-lt_of_le (omega arith));
+      passed = λ i from to e.
+          let below : i - at < k = omega arith in
+          let there : at + (i - at) ≡ i = omega arith in
+          none (i - at) 0 (omega arith) (omega arith)
+          (get_or-take k (drop at text) (i - at) 0 below ∙ get_or-drop at text (i - at) 0 ∙ ap (λ (j : ℕ). get_or text j 0) there ∙ e);
     }
 
 -- A text is without a byte that stands at no place of it.
@@ -93,58 +104,54 @@ module _ {text : List ℕ} {at end : ℕ} (so_far : NoByte line_feed text at end
 
 -- ---- the fields of a line
 
-module _ {line : List ℕ} {at end : ℕ} (found : FieldEnd line at end) where
-  -- Where a tab ends it, a field is the first of the fields from its start on;
-  field-more : end ≢ length line → fields_of (drop at line) ≡ between line at end ∷ fields_of (drop (end + 1) line)
-  field-more no_end =
-      let within : end ≤ length line = found.no_tab.within in
-      let inside : end < length line = omega arith in
-      ap fields_of (between-then found.no_tab inside (found.at_tab inside))
-      ∙ parted-more tab (between line at end) (drop (end + 1) line) (between-without found.no_tab)
+-- The parts of a text between tabs: those into which the library splits it.
+fields-split : (line : List ℕ) → slice_split (λ (b : ℕ). eqb b tab) line ≡ fields_of line
+unfolding parted
+fields-split [] = refl
+fields-split (b ∷ line) = ?
 
-  -- at the line's end, it is the last of them.
-  field-last : end ≡ length line → fields_of (drop at line) ≡ between line at end ∷ []
-  field-last at_end =
-      let all : between line at end ≡ drop at line = take_all (end - at) (drop at line) (omega (arith, length-drop at line)) in
-      ap fields_of (sym all) ∙ parted-one tab (between line at end) (between-without found.no_tab)
+-- ---- entering a line
 
--- ---- reading a line
+-- Of what a call hands back, refused or not, one knows what came.
+handed-refused : (came : Result (List Site)) {plan new : Plan} {why : Refusal} → record { outcome = Err why; plan = new } ≡ handed unplaced_plan plan came
+    → (came ≡ refused why) × (new ≡ plan)
+handed-refused (accepted next) is = cc
+handed-refused (refused other) is = (cc, cc)
 
--- Nothing is read of other than three fields, and entering them is refused.
-pub none_read : {fields : List (List ℕ)} {line : LineRead} → length fields ≢ 3 → NoFields line → LineReads fields line
-none_read {fields} {line} other none =
-    record {
-      fits = none.fits;
-      enters = λ sites. rw (ne_eqb (length fields) 3 other, none.not_three);
-    }
+handed-accepted : (came : Result (List Site)) {plan new : Plan} → record { outcome = Ok tt; plan = new } ≡ handed unplaced_plan plan came
+    → (next : List Site) × (came ≡ accepted next) × (new ≡ unplaced_plan next)
+handed-accepted (accepted next) is = (next, refl, cc)
+handed-accepted (refused other) is = cc
 
--- A line by the ends of its fields that are found: of one,
-module _ {line : List ℕ} {first : ℕ} (one : FieldEnd line 0 first) where
-  pub line-of-one : first ≡ length line → length (fields_of line) ≢ 3
-  line-of-one ends three = omega (arith, three, ap length (field-last one ends))
+-- Without a whole line from a place on, what stands there is refused.
+pub line-missing : {text : List ℕ} {at : ℕ} {plan : Plan} → at < length text → LineEnds text at None → LineEntered text at plan (Err BadLine) plan
+line-missing {text} {at} {plan} further missing =
+    let line = cut_line (drop at text) in
+    let first = cut-first-line (drop at text) (omega (arith, length-drop at text)) in
+    line_refused first (by_end line.ended line.bytes line.rest (missing line first))
+  where
+    by_end : (ended : Bool) (bytes rest : List ℕ) → (ended ≡ true → most_line_bytes < length bytes)
+        → line_entered (sites_in plan) (record { bytes = bytes; ended = ended; rest = rest }) ≡ refused BadLine
+    by_end false bytes rest long = refl
+    by_end true bytes rest long = rw (lt-ltb most_line_bytes (length bytes) (long refl))
 
-  -- of two,
-  module _ {second : ℕ} (on : first ≢ length line) (two : FieldEnd line (first + 1) second) where
-    pub line-of-two : second ≡ length line → length (fields_of line) ≢ 3
-    line-of-two ends three = omega (arith, three, ap length (field-more one on), ap length (field-last two ends))
+-- A whole line comes to what its fields do.
+module _ {text : List ℕ} {at end : ℕ} (found : LineAt text at end) (plan : Plan) where
+  line_comes : line_entered (sites_in plan) (line_at text at end) ≡ entered_fields (sites_in plan) (fields_of (between text at end))
+  line_comes = rw (le-ltb most_line_bytes (length (between text at end)) found.short)
 
-    -- of more than three, and of three.
-    module _ {third : ℕ} (further : second ≢ length line) (three : FieldEnd line (second + 1) third) where
-      pub line-of-four : third ≢ length line → length (fields_of line) ≢ 3
-      line-of-four more is =
-          omega (
-            arith,
-            is,
-            ap length (field-more one on),
-            ap length (field-more two further),
-            ap length (field-more three more),
-            parted-some tab (drop (third + 1) line),
-          )
+  pub fields_missing : length (fields_of (between text at end)) ≢ 3 → LineEntered text at plan (Err BadLine) plan
+  fields_missing other = line_refused found.first (line_comes ∙ rw (ne_eqb (length (fields_of (between text at end))) 3 other))
 
-      pub line-of-three : third ≡ length line
-          → fields_of line ≡ take first line ∷ between line (first + 1) second ∷ between line (second + 1) (length line) ∷ []
-      line-of-three ends =
-          field-more one on
-          ∙ ap₂ (λ (k : ℕ) (fields : List (List ℕ)). take k line ∷ fields) (sub-zero first)
-          (field-more two further ∙ ap (λ (fields : List (List ℕ)). between line (first + 1) second ∷ fields)
-          (field-last three ends ∙ ap (λ (end : ℕ). between line (second + 1) end ∷ []) ends))
+  module _ {read : SiteRead} (reads : FieldsRead (fields_of (between text at end)) read) {new : Plan} where
+    pub site_refused : {why : Refusal} → record { outcome = Err why; plan = new } ≡ handed unplaced_plan plan (entered (sites_in plan) (wanted_read read))
+        → LineEntered text at plan (Err why) new
+    site_refused {why} is =
+        let came = handed-refused (entered (sites_in plan) (wanted_read read)) is in
+        subst (LineEntered text at plan (Err why)) (sym came.1) (line_refused found.first (line_comes ∙ reads.enters (sites_in plan) ∙ came.0))
+
+    pub site_entered : record { outcome = Ok tt; plan = new } ≡ handed unplaced_plan plan (entered (sites_in plan) (wanted_read read))
+        → LineEntered text at plan (Ok end) new
+    site_entered is =
+        let came = handed-accepted (entered (sites_in plan) (wanted_read read)) is in
+        subst (LineEntered text at plan (Ok end)) (sym came.2) (line_accepted found (line_comes ∙ reads.enters (sites_in plan) ∙ came.1))

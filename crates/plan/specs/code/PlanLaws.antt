@@ -1,13 +1,13 @@
 -- What a plan that the calls hand back holds, and the plan with one site more.
 -- Assumes nothing.
-use Rattle.std.specs.Prelude.{◌≡◌, true, false, List, [], ◌∷◌, ◌++◌, map, ℕ, suc, ◌+◌, ◌-◌, ◌*◌, ◌<◌, length, get_or, take, set, replicate}
+use Rattle.std.specs.Prelude.{◌≡◌, refl, true, false, List, [], ◌∷◌, ◌++◌, map, ℕ, suc, ◌+◌, ◌-◌, ◌*◌, ◌≤◌, ◌<◌, length, get_or, take, drop, set, replicate, ok_or, Ok, Err}
+use Rattle.std.specs.Prelude as rattle
 use Rattle.std.proofs.Common.{sym, ap, ap₂, ◌∙◌, subst, append_assoc, arith, length-append, take_at, ltb-false}
 use Rattle.std.proofs.lemmas.List.{map-append, length-map, set_at}
-use Rattle.std.proofs.Math.Option.{none}
+use Rattle.std.proofs.Math.Option.{Option, some, none}
 use Rattle.std.proofs.Math.ListN.{get_or-append, get_or-map}
 use Rattle.std.proofs.Math.Seq.{take-append_seam}
 use Rattle.std.proofs.lemmas.Bool.{eqb-false}
-use Rattle.placing.specs.declared.choice.Choice.{Choice}
 use Rattle.placing.specs.declared.units.Place.{Place}
 use Rattle.placing.specs.declared.units.Side.{Side}
 use Rattle.placing.specs.declared.units.Side.TheVariants.{Free}
@@ -15,12 +15,13 @@ use Rattle.placing.specs.declared.way.Way.{Way}
 use Rattle.placing.specs.declared.way.Way.TheVariants.{Usual}
 use Rattle.placing.specs.rules.Units.{nowhere, most_sites}
 use Rattle.placing.specs.rules.Answer.{judged_at}
-use Rattle.placing.specs.deciding.Answer.{first_good, chosen_at}
-use Rattle.placing.specs.calls.Placing.{choice_as, MayPlace}
+use Rattle.placing.specs.deciding.Answer.{first_good, corners_of, is_some, chosen_at}
+use Rattle.placing.specs.calls.Placing.{corners_held, choice_as, MayPlace}
 use Rattle.plan.specs.declared.name.Name.{Name}
 use Rattle.plan.specs.declared.plan.Plan.{Plan}
+use Rattle.plan.specs.declared.refusal.Refusal.{Refusal}
 use Rattle.plan.specs.rules.Refusal.{first_refusal}
-use Rattle.plan.specs.rules.Calls.{finding_tests}
+use Rattle.plan.specs.rules.Calls.{finding_tests, cleared}
 use Rattle.plan.specs.rules.List.{Site, no_site, place_of, places_of, name_taken, place_taken}
 use Rattle.plan.specs.calls.Plan.{name_of, name_held, name_record, names_held, places_held, unplaced_plan, placed_with, Valid, is_unplaced}
 use Rattle.plan.specs.deciding.Output.{exists_at}
@@ -34,6 +35,10 @@ use Rattle.plan.specs.code.Taken.{site_of, PaddedNames, names_taken, places_take
 abbrev pub unplaced_of : ℕ → List Name → List Place → Plan
 unplaced_of count names places =
     record { count = count; names = names; places = places; placed = false; way = Usual; side = Free; corners = replicate most_sites 0 }
+
+-- A plan with one site more. It is not placed.
+abbrev pub one_more : Plan → Name → Place → Plan
+one_more plan name place = unplaced_of (plan.count + 1) (set plan.names plan.count name) (set plan.places plan.count place)
 
 -- With every slot empty it is the plan of no sites.
 pub empty-started : {none : Name} → none ≡ name_of [] → unplaced_of 0 (replicate most_sites none) (replicate most_sites nowhere) ≡ unplaced_plan []
@@ -94,8 +99,7 @@ held_more {A} f d sites site room =
 -- The plan with a name and a place more is that of the sites with one more.
 pub holding-more : {plan : Plan} {sites : List Site} → Holding plan sites → (name : Name) (place : Place) → name ≡ name_of (name_held name)
     → plan.count < most_sites
-    → unplaced_of (plan.count + 1) (set plan.names plan.count name) (set plan.places plan.count place)
-    ≡ unplaced_plan (sites ++ (site_of name place ∷ []))
+    → one_more plan name place ≡ unplaced_plan (sites ++ (site_of name place ∷ []))
 unfolding unplaced_plan
 holding-more {plan} {sites} holding name place named room = λ k. unplaced_of (counts k) (names k) (places k)
   where
@@ -119,32 +123,67 @@ abbrev pub placed_of : ℕ → List Name → List Place → Way → Side → Lis
 placed_of count names places way side corners =
     record { count = count; names = names; places = places; placed = true; way = way; side = side; corners = corners }
 
-module _ {plan : Plan} {sites : List Site} (holding : Holding plan sites) (way : Way) (side : Side) (choice : Choice)
-    (e : choice ≡ choice_as (first_good way (judged_at side) (take plan.count plan.places))) where
-  -- The choice by a way at a side for a plan's places is that for its sites.
-  choice-held : choice ≡ choice_as (first_good way (judged_at side) (places_of sites))
-  choice-held = e ∙ ap (λ (places : List Place). choice_as (first_good way (judged_at side) places)) (holding-places holding)
+-- A choice, and whether there is one.
+abbrev Choice : Type 0
+Choice = rattle.Option (List ℕ)
 
-  -- So the plan with it is that of its sites, placed there,
-  pub holding-placed : {after : Plan} → after ≡ placed_of plan.count plan.names plan.places way side choice.corners
-      → after ≡ placed_with sites way (chosen_at way side (places_of sites))
-  unfolding placed_with chosen_at
-  holding-placed is = is ∙ (λ k. placed_of (holding.count k) (holding.names k) (holding.places k) way side (choice-held k).corners)
+abbrev Chosen : Type 0
+Chosen = rattle.Result (List ℕ) Refusal
 
-  -- and whether there is one is the rules' too.
-  pub holding-exists : choice.exists ≡ exists_at way side sites
-  holding-exists = ap (λ (c : Choice). c.exists) choice-held
+-- What choosing hands back for the first good choice: its corners, then zeros; or a refusal where there is none.
+some-choice : (first : Option (List ℕ)) (why : Refusal) {corners : List ℕ} → ok_or (choice_as first) why ≡ Ok corners
+    → (corners_held (corners_of first) ≡ corners) × (is_some first ≡ true)
+some-choice (some cs) why {corners} is = let same : corners_held cs ≡ corners = cc in (same, refl)
+some-choice none why is = let z : ◌≡◌ {A = ℕ} 0 1 = cc in absurd (omega arith)
 
--- Its places may be placed, where no test of finding holds: there are some sites, and the table has room.
-pub holding-ready : {plan : Plan} {sites : List Site} → Holding plan sites → (table : List ℕ)
-    → first_refusal (finding_tests plan.count (length table)) ≡ none → MayPlace plan.count plan.places table
-holding-ready {plan} {sites} holding table ready =
-    let none_holds = (rows_none (finding_tests plan.count (length table)) ready).none_holds in
-    let some_sites = eqb-false plan.count 0 (none_holds 0 (omega arith)) in
-    record {
-      some_sites = omega arith;
-      few = omega (arith, holding.count, holding.listed.few);
-      distinct = rw (holding-places holding) holding.listed.places_distinct;
-      in_range = rw (holding-places holding) (listed-in-range holding.listed);
-      room = ltb-false (length table) (plan.count * plan.count) (none_holds 1 (omega arith));
-    }
+no-choice : (first : Option (List ℕ)) (why : Refusal) {other : Refusal} → ok_or (choice_as first) why ≡ Err other → (is_some first ≡ false) × (why ≡ other)
+no-choice (some cs) why is = let z : ◌≡◌ {A = ℕ} 0 1 = cc in absurd (omega arith)
+no-choice none why {other} is = let same : why ≡ other = cc in (refl, same)
+
+module _ {plan : Plan} {sites : List Site} (holding : Holding plan sites) where
+  -- It holds as many places as sites.
+  pub holding-size : length (take plan.count plan.places) ≡ plan.count
+  holding-size = ap length (holding-places holding) ∙ length-map sites place_of ∙ sym holding.count
+
+  -- So what clears the table for its places clears it for so many sites.
+  pub holding-cleared : (table : List ℕ) {left : List ℕ} → left ≡ cleared (length (take plan.count plan.places)) table
+      → left ≡ cleared plan.count table
+  holding-cleared table is = is ∙ ap (λ (n : ℕ). cleared n table) holding-size
+
+  -- They may be placed, where no test of finding holds: there are some sites, and the table has room.
+  pub holding-ready : (table : List ℕ) → first_refusal (finding_tests plan.count (length table)) ≡ none
+      → MayPlace (take plan.count plan.places) table
+  holding-ready table ready =
+      let none_holds = (rows_none (finding_tests plan.count (length table)) ready).none_holds in
+      let some_sites = eqb-false plan.count 0 (none_holds 0 (omega arith)) in
+      record {
+        some_sites = omega (arith, holding-size);
+        few = omega (arith, holding-size, holding.count, holding.listed.few);
+        distinct = rw (holding-places holding) holding.listed.places_distinct;
+        in_range = rw (holding-places holding) (listed-in-range holding.listed);
+        room = rw holding-size (ltb-false (length table) (plan.count * plan.count) (none_holds 1 (omega arith)));
+      }
+
+  module _ (way : Way) (side : Side) {choice : Choice} (first : choice ≡ choice_as (first_good way (judged_at side) (take plan.count plan.places)))
+      {chosen : Chosen} (why : Refusal) (is : chosen ≡ ok_or choice why) where
+    -- The choice by a way at a side for its places is that for its sites.
+    chosen-held : ok_or (choice_as (first_good way (judged_at side) (places_of sites))) why ≡ chosen
+    chosen-held =
+        ap (λ (places : List Place). ok_or (choice_as (first_good way (judged_at side) places)) why) (sym (holding-places holding))
+        ∙ ap (λ (c : Choice). ok_or c why) (sym first) ∙ sym is
+
+    module _ {corners : List ℕ} (so : chosen ≡ Ok corners) where
+      -- So where there is one, there is one by the rules,
+      pub holding-exists : exists_at way side sites ≡ true
+      holding-exists = (some-choice (first_good way (judged_at side) (places_of sites)) why (chosen-held ∙ so)).1
+
+      -- and the plan with its corners is that of its sites, placed there;
+      pub holding-placed : placed_of plan.count plan.names plan.places way side corners ≡ placed_with sites way (chosen_at way side (places_of sites))
+      unfolding placed_with chosen_at
+      holding-placed =
+          let held = (some-choice (first_good way (judged_at side) (places_of sites)) why (chosen-held ∙ so)).0 in
+          λ k. placed_of (holding.count k) (holding.names k) (holding.places k) way side (sym held k)
+
+    -- else there is none.
+    pub holding-none : {other : Refusal} → chosen ≡ Err other → (exists_at way side sites ≡ false) × (why ≡ other)
+    holding-none so = no-choice (first_good way (judged_at side) (places_of sites)) why (chosen-held ∙ so)

@@ -1,18 +1,18 @@
 -- Reading a list line after line: what holds of the plan so far and of the text that is left.
 -- Assumes nothing.
 use Rattle.std.specs.Prelude.{◌≡◌, refl, Bool, true, false, List, [], ◌∷◌, ◌++◌, ℕ, ◌+◌, ◌≤◌, ◌<◌, length, drop, Some, None, Ok, Err}
+use Rattle.std.specs.Prelude as rattle
+use Rattle.std.specs.Result.{result_err}
 use Rattle.std.proofs.Common.{sym, ◌∙◌, arith, le-ltb, lt-ltb, length-drop, drop_of_length-le}
 use Rattle.std.proofs.Math.Path.{ap}
 use Rattle.std.proofs.Math.Option.{Option, none}
-use Rattle.std.proofs.Math.ListN.{set}
 use Rattle.placing.specs.rules.Units.{most_sites}
 use Rattle.plan.specs.declared.list.LineEnd.TheVariants.{Missing}
 use Rattle.plan.specs.declared.list.LineRead.{LineRead}
-use Rattle.plan.specs.declared.list.LinesRead.{LinesRead}
+use Rattle.plan.specs.declared.list.RefusedLine.{RefusedLine}
 use Rattle.plan.specs.declared.refusal.Refusal.{Refusal}
 use Rattle.plan.specs.declared.refusal.Refusal.TheVariants.{BadLine}
 use Rattle.plan.specs.declared.plan.Plan.{Plan}
-use Rattle.plan.specs.declared.plan.Planned.{Planned}
 use Rattle.plan.specs.rules.Refusal.{first_refusal, Result, accepted, refused, unless, after_tests}
 use Rattle.plan.specs.rules.Text.{line_feed, fields_of}
 use Rattle.plan.specs.rules.List.{Site, Listed, with_site, list_text, most_line_bytes, TextLine, FirstLine, line_entered}
@@ -27,7 +27,7 @@ use Rattle.plan.specs.theorems.Reading.{first-refused, reads-are}
 use Rattle.plan.specs.theorems.Tables.{rest-none}
 use Rattle.plan.specs.theorems.Entering.{Passed, tests-passed}
 use Rattle.plan.specs.theorems.Plan.{sites-unplaced, valid-holding}
-use Rattle.plan.specs.code.PlanLaws.{holding-more}
+use Rattle.plan.specs.code.PlanLaws.{one_more, holding-more}
 use Rattle.plan.specs.code.Entering.{wanted_read, outcome_of, outcome-refuses, outcome-none}
 use Rattle.plan.specs.code.Line.{between, line_at, LineAt, LineEnds, entered_fields, read_tests, LineReads}
 use Rattle.plan.specs.code.CallLaws.{refusal-of}
@@ -43,27 +43,17 @@ pub record Reading (text : List ℕ) (plan : Plan) (at : ℕ) : Type 0 where
 
 -- A plan with what was read of a line behind its sites.
 abbrev pub with_read : Plan → LineRead → Plan
-with_read plan line =
-    record {
-      count = plan.count + 1;
-      names = set plan.names plan.count line.name.name;
-      places = set plan.places plan.count line.place.place;
-      placed = plan.placed;
-      way = plan.way;
-      side = plan.side;
-      corners = plan.corners;
-    }
+with_read plan line = one_more plan line.name.name line.place.place
+
+-- What reading line after line comes to: where it stops, at a line that is refused or nowhere.
+abbrev pub Stopped : Type 0
+Stopped = rattle.Result (Unit {0}) RefusedLine
 
 -- Reading is over: at a line that is refused, or at the text's end.
-pub data LinesReads (text : List ℕ) : LinesRead → Type 0 where
-  stops : {plan : Plan} {at : ℕ} {line : TextLine} {why : Refusal} (so_far : Reading text plan at) → FirstLine (drop at text) line
-      → line_entered so_far.sites line ≡ refused why → LinesReads text (record { outcome = Err why; plan = plan; at = at })
-  ends : {plan : Plan} {at : ℕ} → Reading text plan at → length text ≤ at
-      → LinesReads text (record { outcome = Ok tt; plan = plan; at = at })
-
--- No answer is both.
-refused-not-done : {why : Refusal} → ◌≡◌ {A = Outcome} (Err why) (Ok tt) → ⊥
-refused-not-done so = let z : ◌≡◌ {A = ℕ} 0 1 = cc in absurd (omega arith)
+pub data LinesReads (text : List ℕ) : Stopped → Plan → Type 0 where
+  stops : {plan : Plan} {line : TextLine} {stop : RefusedLine} (so_far : Reading text plan stop.at) → stop.number ≡ plan.count + 1
+      → FirstLine (drop stop.at text) line → line_entered so_far.sites line ≡ refused stop.why → LinesReads text (Err stop) plan
+  ends : {plan : Plan} {at : ℕ} → Reading text plan at → length text ≤ at → LinesReads text (Ok tt) plan
 
 -- At the start, with the empty plan.
 pub reading-starts : (text : List ℕ) (plan : Plan) → plan ≡ started → Reading text plan 0
@@ -77,7 +67,7 @@ module _ {text : List ℕ} {plan : Plan} {at : ℕ} (so_far : Reading text plan 
   reading-valid = rw so_far.held (is_unplaced so_far.sites so_far.listed)
 
   -- It holds at most 240 sites.
-  reading-few : plan.count ≤ most_sites
+  pub reading-few : plan.count ≤ most_sites
   unfolding unplaced_plan
   reading-few = omega (arith, so_far.listed.few, ap (λ (p : Plan). p.count) so_far.held)
 
@@ -86,12 +76,12 @@ module _ {text : List ℕ} {plan : Plan} {at : ℕ} (so_far : Reading text plan 
   reading-all past = so_far.onward (accepted so_far.sites) (rw (drop_of_length-le text past) end)
 
   -- Before it, without a whole line from there on, reading stops.
-  pub reading-missing : {r : LinesRead} → at < length text → LineEnds text at Missing
-      → r ≡ record { outcome = Err BadLine; plan = plan; at = at } → LinesReads text r
-  reading-missing further missing is =
+  pub reading-missing : at < length text → LineEnds text at Missing
+      → LinesReads text (Err (record { number = plan.count + 1; at = at; why = BadLine })) plan
+  reading-missing further missing =
       let line = cut_line (drop at text) in
       let first = cut-first-line (drop at text) (omega (arith, length-drop at text)) in
-      rw is (stops so_far first (by_end line.ended line.bytes line.rest (missing line first)))
+      stops so_far refl first (by_end line.ended line.bytes line.rest (missing line first))
     where
       by_end : (ended : Bool) (bytes rest : List ℕ) → (ended ≡ true → most_line_bytes < length bytes)
           → line_entered so_far.sites (record { bytes = bytes; ended = ended; rest = rest }) ≡ refused BadLine
@@ -112,9 +102,9 @@ module _ {text : List ℕ} {plan : Plan} {at : ℕ} (so_far : Reading text plan 
         ∙ reads.enters (sites_in plan)
 
     -- Refused, reading stops.
-    pub reading-refused : {r : LinesRead} {why : Refusal} → outcome ≡ Err why
-        → r ≡ record { outcome = Err why; plan = plan; at = at } → LinesReads text r
-    reading-refused so r-is = rw r-is (stops so_far found.first (line_is ∙ outcome-refuses (read_tests (sites_in plan) line) is next so))
+    pub reading-refused : {why : Refusal} → outcome ≡ Err why
+        → LinesReads text (Err (record { number = plan.count + 1; at = at; why = why })) plan
+    reading-refused so = stops so_far refl found.first (line_is ∙ outcome-refuses (read_tests (sites_in plan) line) is next so)
 
     -- Accepted, there is room for its site,
     module _ (so : outcome ≡ Ok tt) where
@@ -132,18 +122,7 @@ module _ {text : List ℕ} {plan : Plan} {at : ℕ} (so_far : Reading text plan 
       accepts = line_is ∙ ap (λ (first : Option Refusal). unless first next) none_holds
 
       held_next : with_read plan line ≡ unplaced_plan next
-      unfolding unplaced_plan
-      held_next =
-          (λ k. record {
-            count = plan.count + 1;
-            names = set plan.names plan.count line.name.name;
-            places = set plan.places plan.count line.place.place;
-            placed = (so_far.held k).placed;
-            way = (so_far.held k).way;
-            side = (so_far.held k).side;
-            corners = (so_far.held k).corners;
-          })
-          ∙ holding-more (valid-holding reading-valid) line.name.name line.place.place reads.fits.padded reading-room
+      held_next = holding-more (valid-holding reading-valid) line.name.name line.place.place reads.fits.padded reading-room
 
       pub reading-on : Reading text (with_read plan line) (end + 1)
       reading-on =
@@ -166,44 +145,31 @@ module _ {text : List ℕ} {plan : Plan} {at : ℕ} (so_far : Reading text plan 
 
 module _ {text : List ℕ} where
   -- Where it stopped at a line, the text is refused, and a refusal hands back an empty plan.
-  pub lines-refused : {r : LinesRead} {why : Refusal} {fresh : Plan} {planned : Planned} → LinesReads text r → r.outcome ≡ Err why
-      → (fresh ≡ started) × Valid fresh → planned ≡ refusal-of fresh why → (planned ≡ read_from text) × Valid planned.plan
-  lines-refused {why = why} (stops {why = other} so_far first refuses) so empty is =
-      let same : other ≡ why = cc in
-      let all = reads-are (so_far.onward (refused other) (refused_line first refuses)) ∙ ap refused same in
-      let answer = is ∙ ap (λ (p : Plan). refusal-of p why) empty.0 in
-      (answer ∙ ap (handed unplaced_plan started) (sym all), rw is empty.1)
-  lines-refused (ends so_far past) so empty is = absurd (refused-not-done (sym so))
+  pub lines-refused : {stop : RefusedLine} {plan fresh : Plan} → LinesReads text (Err stop) plan → (fresh ≡ started) × Valid fresh
+      → (refusal-of fresh stop.why ≡ read_from text) × Valid fresh
+  lines-refused (stops {stop = stop} so_far number first refuses) empty =
+      let all = reads-are (so_far.onward (refused stop.why) (refused_line first refuses)) in
+      (ap (λ (p : Plan). refusal-of p stop.why) empty.0 ∙ ap (handed unplaced_plan started) (sym all), empty.1)
 
-  -- The plan holds at most 240 sites.
-  pub lines-few : {r : LinesRead} → LinesReads text r → r.plan.count ≤ most_sites
-  lines-few (stops so_far first refuses) = reading-few so_far
-  lines-few (ends so_far past) = reading-few so_far
-
-  -- The line where it stopped is the first refused one.
-  pub lines-stop : {r : LinesRead} {why : Refusal} → LinesReads text r → r.outcome ≡ Err why
-      → StopTold text (Some (record { number = r.plan.count + 1; at = r.at; why = why }))
+  -- The line where it stopped is the first refused one,
+  lines-stop : {stop : RefusedLine} {plan : Plan} → LinesReads text (Err stop) plan → StopTold text (Some stop)
   unfolding first-refused unplaced_plan
-  lines-stop {why = why} (stops {why = other} so_far first refuses) so =
-      let same : other ≡ why = cc in
+  lines-stop (stops so_far number first refuses) =
       at_a_line (record {
-        first = first-refused so_far.sites _ so_far.parts so_far.listed first (refuses ∙ ap refused same);
-        number_is = ap (λ (p : Plan). p.count + 1) so_far.held;
+        first = first-refused so_far.sites _ so_far.parts so_far.listed first refuses;
+        number_is = number ∙ ap (λ (p : Plan). p.count + 1) so_far.held;
         starts = refl;
       })
-  lines-stop (ends so_far past) so = absurd (refused-not-done (sym so))
 
-  -- Where it stopped nowhere, the whole text is read into the plan,
-  pub lines-done : {r : LinesRead} → LinesReads text r → r.outcome ≡ Ok tt
-      → (record { outcome = Ok tt; plan = r.plan } ≡ read_from text) × Valid r.plan
-  lines-done (stops so_far first refuses) so = absurd (refused-not-done so)
-  lines-done (ends so_far past) so = (
+  -- and where it stopped nowhere, every line is accepted.
+  pub lines-told : {result : Stopped} {plan : Plan} → LinesReads text result plan → StopTold text (result_err result)
+  lines-told {result = Err stop} lines = lines-stop lines
+  lines-told {result = Ok done} (ends so_far past) = at_no_line (reading-all so_far past)
+
+  -- The whole text is then read into the plan.
+  pub lines-done : {plan : Plan} → LinesReads text (Ok tt) plan → (record { outcome = Ok tt; plan = plan } ≡ read_from text) × Valid plan
+  lines-done (ends so_far past) = (
     ap (λ (p : Plan). record { outcome = Ok tt; plan = p }) so_far.held
         ∙ ap (handed unplaced_plan started) (sym (reads-are (reading-all so_far past))),
     reading-valid so_far,
   )
-
-  -- and every line is accepted.
-  pub lines-nowhere : {r : LinesRead} → LinesReads text r → r.outcome ≡ Ok tt → StopTold text None
-  lines-nowhere (stops so_far first refuses) so = absurd (refused-not-done so)
-  lines-nowhere (ends so_far past) so = at_no_line (reading-all so_far past)

@@ -13,7 +13,6 @@ use Rattle.placing.specs.deciding.Answer.{answer_of, chosen_at}
 use Rattle.plan.specs.declared.refusal.Refusal.{Refusal}
 use Rattle.plan.specs.declared.refusal.Refusal.TheVariants.{BadNumber, NoSites, ShortTable, NoGoodChoice}
 use Rattle.plan.specs.declared.plan.Plan.{Plan}
-use Rattle.plan.specs.declared.plan.Planned.{Planned}
 use Rattle.plan.specs.rules.Refusal.{number_of, ◌gives◌, first_refusal, refusal_number, number_by, unless}
 use Rattle.plan.specs.rules.Text.{decimal, number_in}
 use Rattle.plan.specs.rules.List.{Site, places_of, enter_tests, wanted_at}
@@ -47,6 +46,7 @@ use Rattle.plan.specs.calls.Answers.{
   AskedSide,
   AskedCorner,
   Written,
+  Planned,
 }
 use Rattle.plan.specs.Demands.{Refuses, EnterTold, FindTold, ChooseTold, SideTold, CornerTold, WriteTold}
 use Rattle.plan.specs.calls.Given.{coordinate_read, coordinate_number}

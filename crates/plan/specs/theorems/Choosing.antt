@@ -14,13 +14,12 @@ use Rattle.placing.specs.theorems.Answer.{answer-is}
 use Rattle.placing.specs.theorems.Given.{judged-range, some-found, found_some, is-chosen-at, answer-chosen, found-chosen, up-to-found, above-found}
 use Rattle.plan.specs.declared.refusal.Refusal.TheVariants.{BadNumber, NoSites, ShortTable, NoGoodChoice}
 use Rattle.plan.specs.declared.plan.Plan.{Plan}
-use Rattle.plan.specs.declared.plan.Planned.{Planned}
 use Rattle.plan.specs.rules.Refusal.{number_by, ◌gives◌, first_refusal, accepted, unless, after_tests}
 use Rattle.plan.specs.rules.List.{Site, places_of}
 use Rattle.plan.specs.rules.Calls.{outside, no_sites, no_good, choosing_tests, cleared}
 use Rattle.plan.specs.deciding.Output.{exists_at}
 use Rattle.plan.specs.calls.Plan.{unplaced_plan, placed_with, placed_plan, sites_in, Valid, is_unplaced, is_placed}
-use Rattle.plan.specs.calls.Answers.{outcome_number, handed, side_answer, side_found, found_in, table_found, chosen_for, chosen_in, table_chosen}
+use Rattle.plan.specs.calls.Answers.{outcome_number, handed, side_answer, side_found, found_in, table_found, chosen_for, chosen_in, table_chosen, Planned}
 use Rattle.plan.specs.theorems.Plan.{Holding, sites-unplaced, sites-placed}
 
 -- The order 3, 8, 11, 12, whatever the tests behind the first that holds come to.

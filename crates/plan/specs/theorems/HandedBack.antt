@@ -13,14 +13,13 @@ use Rattle.placing.specs.deciding.Answer.{chosen_at}
 use Rattle.placing.specs.theorems.Given.{chosen_is}
 use Rattle.plan.specs.declared.refusal.Refusal.{Refusal}
 use Rattle.plan.specs.declared.plan.Plan.{Plan}
-use Rattle.plan.specs.declared.plan.Planned.{Planned}
 use Rattle.plan.specs.rules.Refusal.{Test, first_refusal, Result, accepted, refused, unless}
 use Rattle.plan.specs.rules.List.{Site, places_of, Listed, list_text, entered, wanted_at}
 use Rattle.plan.specs.rules.Calls.{choosing_tests}
 use Rattle.plan.specs.deciding.Output.{exists_at}
 use Rattle.plan.specs.deciding.Reading.{read_list, read_within}
 use Rattle.plan.specs.calls.Plan.{unplaced_plan, placed_with, sites_in, Valid, is_unplaced, is_placed}
-use Rattle.plan.specs.calls.Answers.{started, handed, entered_in, read_from, chosen_in, counted}
+use Rattle.plan.specs.calls.Answers.{started, handed, entered_in, read_from, chosen_in, counted, Planned}
 use Rattle.plan.specs.theorems.Tables.{rows_none}
 use Rattle.plan.specs.theorems.Sites.{listed-none}
 use Rattle.plan.specs.theorems.Entering.{entered-passed, entered-listed}

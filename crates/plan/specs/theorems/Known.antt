@@ -26,14 +26,13 @@ use Rattle.placing.specs.theorems.CheckedAnswer.{equal_test, equal-decides, prun
 use Rattle.plan.specs.declared.refusal.Refusal.{Refusal}
 use Rattle.plan.specs.declared.refusal.Refusal.TheVariants.{BadNumber, NoSites, NoGoodChoice}
 use Rattle.plan.specs.declared.plan.Plan.{Plan}
-use Rattle.plan.specs.declared.plan.Planned.{Planned}
 use Rattle.plan.specs.rules.Refusal.{number_of, Test, ◌gives◌, Result, accepted, refused, after_tests}
 use Rattle.plan.specs.rules.Text.{is_name, all_name_bytes, same_bytes}
 use Rattle.plan.specs.rules.List.{Site, place_at, places_of, Listed, entered, wanted_at}
 use Rattle.plan.specs.rules.Calls.{outside, no_sites, no_good}
 use Rattle.plan.specs.deciding.Output.{exists_at}
 use Rattle.plan.specs.calls.Plan.{unplaced_plan, placed_with}
-use Rattle.plan.specs.calls.Answers.{started, handed, entered_in, side_answer, found_in, chosen_in, Outcome, AskedSide}
+use Rattle.plan.specs.calls.Answers.{started, handed, entered_in, side_answer, found_in, chosen_in, Outcome, AskedSide, Planned}
 use Rattle.plan.specs.theorems.Sites.{listed-none}
 use Rattle.plan.specs.theorems.Entering.{entered-listed}
 use Rattle.plan.specs.theorems.Sheet.{answer-listed}

@@ -12,13 +12,12 @@ use Rattle.placing.specs.theorems.Given.{is-chosen-at}
 use Rattle.placing.specs.deciding.Answer.{chosen_at}
 use Rattle.plan.specs.rules.Refusal.{Test, number_by, accepted}
 use Rattle.plan.specs.declared.plan.Plan.{Plan}
-use Rattle.plan.specs.declared.plan.Planned.{Planned}
 use Rattle.plan.specs.rules.List.{Site, places_of, list_text, end, enter_tests, wanted_at}
 use Rattle.plan.specs.rules.Sheet.{sheet_with, side_on, refusal_line, carried}
 use Rattle.plan.specs.rules.Calls.{finding_tests, choosing_tests, side_tests, corner_tests, write_tests, cleared}
 use Rattle.plan.specs.deciding.Output.{output_of, exists_at, output_at}
 use Rattle.plan.specs.calls.Plan.{unplaced_plan, placed_with, placed_plan, sites_in}
-use Rattle.plan.specs.calls.Answers.{outcome_number, side_asked_number, corner_asked_number, written_number, sheet_for, AskedSide, AskedCorner, Written}
+use Rattle.plan.specs.calls.Answers.{outcome_number, side_asked_number, corner_asked_number, written_number, sheet_for, AskedSide, AskedCorner, Written, Planned}
 use Rattle.plan.specs.Demands.{Refuses, ChooseTold, Accepts, ListRefused, at_line, of_no_sites, RightSheet, SheetFor, Answered, is_refusal_line, list_sheet}
 use Rattle.plan.specs.Demands.{EnterTold, SideTold, CornerTold, WriteTold, ReadTold, read_refused, read_all}
 use Rattle.plan.specs.Demands.{FindTold, ListTold, list_refused, list_is_placed, ListToldAt, is_refused_at, list_is_placed_at}

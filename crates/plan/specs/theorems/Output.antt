@@ -11,7 +11,6 @@ use Rattle.placing.specs.rules.Answer.{Answer, is_side, IsAnswer, IsChosen}
 use Rattle.placing.specs.deciding.Answer.{chosen_at}
 use Rattle.placing.specs.theorems.Answer.{is-answer-of}
 use Rattle.placing.specs.theorems.Given.{answer-chosen, chosen-answer, chosen_is, some-found}
-use Rattle.plan.specs.declared.plan.Planned.{Planned}
 use Rattle.plan.specs.declared.refusal.Refusal.{Refusal}
 use Rattle.plan.specs.declared.refusal.Refusal.TheVariants.{BadNumber, NoGoodChoice}
 use Rattle.plan.specs.rules.Text.{decimal}
@@ -22,7 +21,7 @@ use Rattle.plan.specs.deciding.Output.{sheet_of, sheet_at, output_for, output_of
 use Rattle.plan.specs.rules.Calls.{no_sites, no_good, filled_with, to_place, to_place_at}
 use Rattle.plan.specs.deciding.Reading.{read_list}
 use Rattle.plan.specs.calls.Plan.{placed_plan}
-use Rattle.plan.specs.calls.Answers.{started, handed, list_placed, placed_at, list_placed_at}
+use Rattle.plan.specs.calls.Answers.{started, handed, list_placed, placed_at, list_placed_at, Planned}
 use Rattle.plan.specs.Demands.{Accepts, ListRefused, at_line, of_no_sites, ListTold, list_refused, list_is_placed, RefusedAt, out_of_range, refused_list, none_good, ListToldAt, is_refused_at, list_is_placed_at, RightSheet, PrintsFound, SheetFor}
 use Rattle.plan.specs.theorems.Text.{decimal-short}
 use Rattle.plan.specs.theorems.Tables.{number_small}

@@ -10,7 +10,6 @@ use native.Mathlib.Omega.{arith}
 use Rattle.std.proofs.Math.ListN.{length-append}
 use Rattle.std.proofs.Math.Seq.{append_snoc}
 use Rattle.placing.specs.rules.Units.{greatest_coordinate, most_sites, along, X, Y}
-use Rattle.plan.specs.declared.plan.Planned.{Planned}
 use Rattle.plan.specs.declared.refusal.Refusal.{Refusal}
 use Rattle.plan.specs.rules.Refusal.{number_of, first_refusal, refusal_number, Result, accepted, refused}
 use Rattle.plan.specs.rules.Text.{tab, line_feed, Without, fields_of, number_in, decimal, or_zero}
@@ -19,7 +18,7 @@ use Rattle.plan.specs.rules.List.{TextLine, FirstLine, with_feed, without_feed, 
 use Rattle.plan.specs.rules.Sheet.{joined}
 use Rattle.plan.specs.deciding.Reading.{with_byte, cut_line, read_on, read_within, read_list}
 use Rattle.plan.specs.calls.Plan.{unplaced_plan, Valid}
-use Rattle.plan.specs.calls.Answers.{started, handed, read_from}
+use Rattle.plan.specs.calls.Answers.{started, handed, read_from, Planned}
 use Rattle.plan.specs.Demands.{FirstRefused, ReadTold, read_refused, read_all}
 use Rattle.plan.specs.theorems.Text.{and_both, name-without, name-short, without-append, parted-one, parted-more, fields-joined, number-decimal, decimal-number, decimal-without, decimal-short}
 use Rattle.plan.specs.theorems.Tables.{rows_none, rest-none, number-some, unless-accepted, unless-refused}

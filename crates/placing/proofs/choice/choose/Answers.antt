@@ -1,22 +1,24 @@
 -- `placing::choice::choose` meets its contract: the walk starts at a fresh state, and its end is the first good choice or none.
 -- Assumes nothing.
+use mathlib.Core.Path.{refl}
 use Rattle.placing.specs.search.Walk.{walk-starts}
-use Rattle.placing.specs.code.Chosen.{walked-choice}
+use Rattle.placing.specs.code.Chosen.{walked_choice, walked_none}
 use Rattle.placing.proofs.choice.choose.Goals as goal
 
-pub walk-ok-requires : goal.walk-ok-requires
-walk-ok-requires c =
+pub walk-requires : goal.walk-requires
+walk-requires c =
     let may = c.requires in
     record {
       held = may.held;
       sizes = c.fresh_state-fresh.ensures.sizes;
       room = may.room;
-      walked = walk-starts (c.fresh_state-fresh.ensures.fresh _ _ _ may.least may.inside may.reaches);
+      walked = walk-starts (c.fresh_state-fresh.ensures.fresh _ _ refl may.least may.inside may.reaches);
     }
 
-pub returns : goal.returns
-returns c =
-    record {
-      first = walked-choice _ _ _ _ _ _ _ _ c.requires.held.few c.walk-ok.ensures.walked;
-      kept = c.walk-ok.ensures.kept;
-    }
+pub returns-then-walk : goal.returns-then-walk
+returns-then-walk c =
+    walked_choice c.walk.ensures c.requires.held.few c.if-walk.true
+
+pub returns-else-walk : goal.returns-else-walk
+returns-else-walk c =
+    walked_none c.walk.ensures c.if-walk.false

@@ -5,66 +5,54 @@ use native.Mathlib.Omega.{arith}
 use borrow.Author.Rules.{rules}
 use Rattle.placing.specs.search.Walk.{walk-decided-add-one}
 use Rattle.placing.specs.code.Steps.{up-to-more}
-use Rattle.placing.specs.code.Marks.{kept_same, kept-twice}
 use Rattle.placing.specs.code.Walking.{refused_none, takes-corner, takes_none, walked_to}
 use Rattle.placing.proofs.choice.choose_corner.Goals as goal
 
 pub returns-then-decided-i-ne0 : goal.returns-then-decided-i-ne0
 returns-then-decided-i-ne0 c =
     let may = c.requires in
-    record {
-      walked = walked_to may.0.sizes (walk-decided-add-one may.0.walked may.1 c.if-decided-i-ne0.true);
-      kept = kept_same;
-    }
+    walked_to may.0.sizes (walk-decided-add-one may.0.walked may.1 c.if-decided-i-ne0.true)
 
 pub loop-e-init : goal.loop-e-init
 loop-e-init c =
     let may = c.requires in (
       search rules,
-      kept_same,
       record { walking = may.0; listed = may.1; undecided = c.if-decided-i-ne0.false },
       refused_none _ may.1,
     )
 
 pub try_open-requires : goal.try_open-requires
 try_open-requires c =
-    (c.loop-e.invariant.2, c.loop-e-test.true)
+    (c.loop-e.invariant.1, c.loop-e-test.true)
 
 pub returns-then-try_open : goal.returns-then-try_open
 returns-then-try_open c =
     let so_far = c.loop-e.invariant in
-    let may = so_far.2 in record {
-      walked = takes-corner c.loop-e.e may.walking.walked may.listed may.undecided so_far.3
-          c.try_open.ensures.tried c.if-try_open.true;
-      kept = kept-twice so_far.1 c.try_open.ensures.kept;
-    }
+    let may = so_far.1 in
+    takes-corner c.loop-e.e may.walking.walked may.listed may.undecided so_far.2 c.try_open.ensures c.if-try_open.true
 
 pub loop-e-preserved : goal.loop-e-preserved
 loop-e-preserved c =
     let so_far = c.loop-e.invariant in
-    let may = so_far.2 in
-    let tried = c.try_open.ensures.tried in
-    let kept = c.try_open.ensures.kept in
+    let may = so_far.1 in
+    let tried = c.try_open.ensures in
     let failed = c.if-try_open.false in (
       omega arith,
-      kept-twice so_far.1 kept,
       record {
         walking = record {
           held = may.walking.held;
           sizes = tried.sizes;
-          room = rw kept.size may.walking.room;
+          room = omega (arith, may.walking.room);
           walked = rw (tried.opens_back failed, tried.decided_back failed) may.walking.walked;
         };
         listed = may.listed;
         undecided = rw (tried.decided_back failed) may.undecided;
       },
-      rw (tried.opens_back failed) (up-to-more _ c.loop-e.e so_far.3 (tried.refused failed)),
+      rw (tried.opens_back failed) (up-to-more _ c.loop-e.e so_far.2 (tried.refused failed)),
     )
 
 pub returns : goal.returns
 returns c =
     let so_far = c.loop-e.invariant in
-    let may = so_far.2 in record {
-      walked = takes_none may.walking.sizes may.walking.walked may.listed c.loop-e-test.false so_far.3;
-      kept = so_far.1;
-    }
+    let may = so_far.1 in
+    takes_none may.walking.sizes may.walking.walked may.listed c.loop-e-test.false so_far.2

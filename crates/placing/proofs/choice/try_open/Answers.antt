@@ -3,7 +3,6 @@
 use mathlib.Core.Path.{◌∙◌}
 use native.Mathlib.Nat.{lt_trans}
 use native.Mathlib.Omega.{arith}
-use Rattle.placing.specs.code.Marks.{kept_same}
 use Rattle.placing.specs.search.Rows.{row_next}
 use Rattle.placing.specs.code.Walking.{tried-shut}
 use Rattle.placing.proofs.choice.try_open.Goals as goal
@@ -30,7 +29,4 @@ returns-then-opens-at-eq1 c =
 pub returns : goal.returns
 returns c =
     let may = c.requires.0 in
-    record {
-      tried = tried-shut c.args.e may.walking.sizes may.listed c.requires.1 c.if-opens-at-eq1.false;
-      kept = kept_same;
-    }
+    tried-shut c.args.e may.walking.sizes may.listed c.requires.1 c.if-opens-at-eq1.false

@@ -3,14 +3,13 @@
 -- Assumes nothing.
 use native.Mathlib.Nat.{le_trans}
 use native.Mathlib.Omega.{arith}
-use Rattle.placing.specs.code.Sites.{held_at, length-sites}
+use Rattle.placing.specs.code.Sites.{held_at}
 use Rattle.placing.specs.code.Crowding.{crowding-none, crowding-more, crowding-all}
 use Rattle.placing.proofs.crowding.crowding_of.Goals as goal
 
 pub loop-i-init : goal.loop-i-init
 loop-i-init c =
-    let count = length-sites c.args.n c.args.xs.now c.args.ys.now in
-    (omega arith, crowding-none c.doubled-furthest.result.0 c.doubled-furthest.ensures (omega arith))
+    (omega arith, crowding-none c.doubled-furthest.result.0 c.doubled-furthest.ensures c.requires.few)
 
 pub lower_row-requires : goal.lower_row-requires
 lower_row-requires c =
@@ -23,11 +22,8 @@ top_left-top-requires c =
 
 pub loop-i-preserved : goal.loop-i-preserved
 loop-i-preserved c =
-    let asked = c.args in
-    let count = length-sites asked.n asked.xs.now asked.ys.now in
     (omega arith, crowding-more (omega arith) c.loop-i.invariant.1 c.lower_row.ensures c.top_left-top.ensures)
 
 pub returns : goal.returns
 returns c =
-    let asked = c.args in
-    crowding-all c.loop-i.top (length-sites asked.n asked.xs.now asked.ys.now) (omega arith) c.loop-i.invariant.1
+    crowding-all c.loop-i.top (omega arith) c.loop-i.invariant.1

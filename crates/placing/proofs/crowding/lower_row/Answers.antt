@@ -3,8 +3,7 @@
 -- Assumes nothing.
 use native.Mathlib.Omega.{arith}
 use mathlib.Core.Path.{refl}
-use Rattle.placing.specs.code.Sites.{length-sites, held_place}
-use Rattle.placing.specs.code.Pairs.{over-next, row-starts, row_ends}
+use Rattle.placing.specs.code.Pairs.{over-pair, row-starts, row_ends}
 use Rattle.placing.proofs.crowding.lower_row.Goals as goal
 
 pub loop-j-init : goal.loop-j-init
@@ -16,10 +15,10 @@ lower_pair-requires c =
     let held = c.requires.0 in
     record {
       size = c.loop-j.invariant.2.size;
-      inside = (held_place held c.requires.1).inside;
-      other_inside = (held_place held c.loop-j-test.true).inside;
-      on_plan = rw c.place_at-s.ensures (held_place held c.requires.1).on_plan;
-      other_on_plan = rw c.place_at.ensures (held_place held c.loop-j-test.true).on_plan;
+      inside = omega (arith, held.few);
+      other_inside = omega (arith, held.few);
+      on_plan = held.in_range.in_range c.args.i c.requires.1;
+      other_on_plan = held.in_range.in_range c.loop-j.j c.loop-j-test.true;
       judged = record { judged = held.judged };
     }
 
@@ -28,14 +27,9 @@ overflow_step-j-in-loop-j c =
     omega (arith, c.requires.0.few)
 
 pub loop-j-preserved : goal.loop-j-preserved
-loop-j-preserved c = (
-  omega arith,
-  omega arith,
-  over-next c.args.xs.now c.args.ys.now c.loop-j.invariant.0 c.loop-j-test.true c.place_at-s.ensures
-      c.place_at.ensures c.loop-j.invariant.2 c.lower_pair.ensures,
-)
+loop-j-preserved c =
+    (omega arith, omega arith, over-pair c.loop-j.invariant.0 c.loop-j-test.true c.loop-j.invariant.2 c.lower_pair.ensures)
 
 pub returns : goal.returns
 returns c =
-    let asked = c.args in
-    row_ends (omega (arith, length-sites asked.n asked.xs.now asked.ys.now)) c.loop-j.invariant.2
+    row_ends (omega arith) c.loop-j.invariant.2

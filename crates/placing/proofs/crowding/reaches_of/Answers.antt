@@ -1,5 +1,6 @@
 -- `crowding::reaches_of` meets its contract, by the function of each way.
 -- Assumes nothing.
+use mathlib.Core.Path.{refl}
 use Rattle.placing.proofs.crowding.reaches_of.Goals as goal
 
 pub returns-in-Usual : goal.returns-in-Usual
@@ -8,4 +9,4 @@ returns-in-Usual c =
 
 pub returns-in-Above : goal.returns-in-Above
 returns-in-Above c =
-    rw c.in-Above.is (c.upper_corners.ensures _)
+    rw c.in-Above.is (c.upper_corners.ensures _ refl)

@@ -1,32 +1,22 @@
--- `placing::place::find_side` meets its contract: the side at the coordinates, and the cleared table.
+-- `placing::place::find_side` meets its contract: the side, and the cleared table.
 -- Assumes nothing.
-use mathlib.Core.Path.{◌∙◌, ap}
-use mathlib.Core.List.{List, ◌++◌}
-use Prim.Native.Nat.{ℕ, ◌*◌, ◌≤◌}
-use native.Mathlib.Nat.{mul-le-mul_right}
+use Prim.Native.Nat.{◌≤◌, ◌*◌}
+use lib.ListN.{length}
 use native.Mathlib.Omega.{arith}
-use lib.ListN.{replicate}
-use Rattle.placing.specs.declared.units.Place.{Place}
-use Rattle.placing.specs.rules.Answer.{side_number}
-use Rattle.placing.specs.deciding.Answer.{answer_of}
-use Rattle.placing.specs.code.Marks.{kept-further}
+use native.Mathlib.Nat.{mul-le-mul_right}
+use borrow.Author.Rules.{rules}
+use Prim.Native.Nat.{ℕ}
+use Rattle.std.proofs.lemmas.List.{length-take}
+use Rattle.std.proofs.lemmas.Slice.{drop-append-drop}
 use Rattle.placing.specs.code.Placed.{may-find}
 use Rattle.placing.proofs.place.find_side.Goals as goal
 
 pub greatest_side-side-requires : goal.greatest_side-side-requires
 greatest_side-side-requires c =
-    may-find c.requires c.coordinates_of-at.ensures
+    may-find c.requires
 
-pub returns : goal.returns
-returns c =
-    let n = c.args.n in
+pub returns-clause-table : goal.returns-clause-table
+returns-clause-table c =
+    let n = length c.args.sites.now in
     let wide : 1 * n ≤ n * n = mul-le-mul_right n c.requires.some_sites in
-    let side =
-    c.greatest_side-side.ensures.side
-    ∙ ap (λ (l : List Place). (answer_of c.args.way l).side) c.coordinates_of-at.ensures.same_sites in
-    record {
-      side = side;
-      table = c.clear.ensures
-          ∙ ap (λ (l : List ℕ). replicate (n * n) 0 ++ l) (kept-further (n * n) (omega arith) c.greatest_side-side.ensures.kept);
-      value = ap side_number side;
-    }
+    rw (drop-append-drop n c.args.table.now c.greatest_side-side.new.marks (n * n) (omega arith) (omega (arith, length-take {A = ℕ}))) (search rules)

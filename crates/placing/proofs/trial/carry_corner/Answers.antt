@@ -1,6 +1,7 @@
 -- `trial::carry_corner` meets its contract. The loop's invariant: the decision of `k` was carried to corner `e` of the other sites below `j`, and the
 -- rest is as at entry. The measure is the number of sites left. Assumes nothing.
 use native.Mathlib.Omega.{arith}
+use Rattle.placing.specs.rules.Units.{site_at}
 use Rattle.placing.specs.declared.way.Way.TheVariants.{Usual}
 use Rattle.placing.specs.code.Carry.{carried-start, carried-more, carried-all, carried-stuck, may-carry-to}
 use Rattle.placing.proofs.trial.carry_corner.Goals as goal
@@ -13,17 +14,17 @@ loop-j-init c =
 pub carry_to-requires : goal.carry_to-requires
 carry_to-requires c =
     may-carry-to c.requires (c.loop-j.invariant.1 Usual) c.loop-j-test.true
-    (λ i. record { site = c.place_at.ensures i; toward = c.directions_of.ensures i }) c.directions_of-toward.ensures
+    (λ i. record { site = site_at c.args.sites.now c.args.k; toward = c.directions_of.ensures i }) c.directions_of-toward.ensures
 
 pub returns-then-not-carry_to : goal.returns-then-not-carry_to
 returns-then-not-carry_to c way =
-    carried-stuck (c.loop-j.invariant.1 way) (c.carry_to.ensures way c.args.n)
+    carried-stuck (c.loop-j.invariant.1 way) (c.carry_to.ensures way)
     c.loop-j-test.true c.if-not-carry_to.true
 
 pub loop-j-preserved : goal.loop-j-preserved
 loop-j-preserved c = (
   omega arith,
-  λ way. carried-more (c.loop-j.invariant.1 way) (c.carry_to.ensures way c.args.n) c.if-not-carry_to.false,
+  λ way. carried-more (c.loop-j.invariant.1 way) (c.carry_to.ensures way) c.if-not-carry_to.false,
 )
 
 pub returns : goal.returns

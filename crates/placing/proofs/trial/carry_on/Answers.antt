@@ -6,7 +6,7 @@ use Prim.Native.Nat.{ℕ, ◌<◌}
 use native.Mathlib.Nat.{lt_of_lt_of_le}
 use native.Mathlib.Omega.{arith}
 use Rattle.placing.specs.code.Steps.{Waits, FirstWaiting}
-use Rattle.placing.specs.code.Marks.{mark-fewer, kept_set}
+use Rattle.placing.specs.code.Marks.{mark-fewer}
 use Rattle.placing.specs.code.CarryOn.{carrying-starts, carrying-ends, carrying-on, carrying-stuck, none_below, may-carry-out}
 use Rattle.placing.proofs.trial.carry_on.Goals as goal
 
@@ -26,17 +26,9 @@ first_waiting-k-requires c =
       none_below = none_below so_far;
     }
 
-pub shape_of-marks-then-k-n : goal.shape_of-marks-then-k-n
-shape_of-marks-then-k-n c =
-    c.loop-way.invariant.kept.size
-
-pub returns-then-k-n : goal.returns-then-k-n
-returns-then-k-n c =
-    let so_far = c.loop-way.invariant in
-    record {
-      carried = carrying-ends so_far c.first_waiting-k.ensures c.if-k-n.true;
-      kept = so_far.kept;
-    }
+pub returns-then-k-sites : goal.returns-then-k-sites
+returns-then-k-sites c =
+    carrying-ends c.loop-way.invariant c.first_waiting-k.ensures c.if-k-sites.true
 
 -- The site found is listed.
 found : {decided marks : List ℕ} {n k : ℕ} → FirstWaiting decided marks n k → (k ≡ n → ⊥) → k < n
@@ -48,31 +40,31 @@ found-waits first other = first.found (found first other)
 
 pub mark_and_carry-requires : goal.mark_and_carry-requires
 mark_and_carry-requires c =
-    let asked = c.requires in
+    let first = c.first_waiting-k.ensures in
+    let more = c.if-k-sites.false in
     let so_far = c.loop-way.invariant in (
-      may-carry-out asked.held asked.inside so_far (found c.first_waiting-k.ensures c.if-k-n.false) (found-waits c.first_waiting-k.ensures c.if-k-n.false).is_decided,
+      may-carry-out c.requires.held c.requires.inside so_far (found first more) (found-waits first more).is_decided,
       so_far.room,
     )
 
-pub shape_of-marks-then-not-mark_and_carry : goal.shape_of-marks-then-not-mark_and_carry
-shape_of-marks-then-not-mark_and_carry c =
-    rw c.mark_and_carry.ensures.marked (kept_set 1 (found c.first_waiting-k.ensures c.if-k-n.false) c.loop-way.invariant.kept).size
-
 pub returns-then-not-mark_and_carry : goal.returns-then-not-mark_and_carry
 returns-then-not-mark_and_carry c =
-    let so_far = c.loop-way.invariant in record {
-      carried = carrying-stuck so_far (found c.first_waiting-k.ensures c.if-k-n.false) (found-waits c.first_waiting-k.ensures c.if-k-n.false).is_decided c.mark_and_carry.ensures.carried c.if-not-mark_and_carry.true;
-      kept = rw c.mark_and_carry.ensures.marked (kept_set 1 (found c.first_waiting-k.ensures c.if-k-n.false) so_far.kept);
-    }
+    let first = c.first_waiting-k.ensures in
+    let more = c.if-k-sites.false in
+    carrying-stuck c.loop-way.invariant (found first more) (found-waits first more).is_decided c.mark_and_carry.ensures.carried
+    c.if-not-mark_and_carry.true
 
 pub loop-way-smaller : goal.loop-way-smaller
 loop-way-smaller c =
-    let so_far = c.loop-way.invariant in
+    let first = c.first_waiting-k.ensures in
+    let more = c.if-k-sites.false in
     rw c.mark_and_carry.ensures.marked
-    (mark-fewer _ _ (found c.first_waiting-k.ensures c.if-k-n.false) (lt_of_lt_of_le (found c.first_waiting-k.ensures c.if-k-n.false) so_far.room) (found-waits c.first_waiting-k.ensures c.if-k-n.false).unmarked)
+    (mark-fewer _ _ (found first more) (lt_of_lt_of_le (found first more) c.loop-way.invariant.room) (found-waits first more).unmarked)
 
 pub loop-way-preserved : goal.loop-way-preserved
 loop-way-preserved c =
-    let so_far = c.loop-way.invariant in
+    let first = c.first_waiting-k.ensures in
+    let more = c.if-k-sites.false in
     rw c.mark_and_carry.ensures.marked
-    (carrying-on so_far (found c.first_waiting-k.ensures c.if-k-n.false) (found-waits c.first_waiting-k.ensures c.if-k-n.false).is_decided c.mark_and_carry.ensures.carried c.if-not-mark_and_carry.false)
+    (carrying-on c.loop-way.invariant (found first more) (found-waits first more).is_decided c.mark_and_carry.ensures.carried
+    c.if-not-mark_and_carry.false)

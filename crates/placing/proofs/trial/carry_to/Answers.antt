@@ -6,7 +6,7 @@ use Rattle.placing.proofs.trial.carry_to.Goals as goal
 pub clash-requires : goal.clash-requires
 clash-requires c =
     let may = c.requires in
-    (rw may.own_is may.from.on_plan, may.to, may.judged)
+    (rw may.own_is (may.held.in_range.in_range c.args.k may.from), may.held, may.to)
 
 pub returns-then-clash : goal.returns-then-clash
 returns-then-clash c =

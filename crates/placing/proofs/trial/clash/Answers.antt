@@ -1,7 +1,7 @@
 -- `trial::clash` meets its contract: sites far away along x do not meet; of the others `growth` tells, and then whether they are two sites
 -- is left.
 -- Assumes nothing.
-use mathlib.Core.Path.{◌≡◌, ap, ap₂, ◌∙◌}
+use mathlib.Core.Path.{◌≡◌, ap, ◌∙◌}
 use Prim.Native.Nat.{ℕ}
 use native.Mathlib.Omega.{arith}
 use Rattle.placing.specs.declared.corner.Directions.{Directions}
@@ -10,7 +10,7 @@ use Rattle.placing.specs.declared.units.Growth.{Growth}
 use Rattle.placing.specs.declared.units.Place.{Place}
 use Rattle.placing.specs.rules.Units.{X}
 use Rattle.placing.specs.rules.Corner.{directions_of}
-use Rattle.placing.specs.code.Sites.{site_in}
+use Rattle.placing.specs.rules.Units.{site_at}
 use Rattle.placing.specs.code.Steps.{label_at}
 use Rattle.placing.specs.deciding.Growth.{growth_of}
 use Rattle.placing.specs.deciding.Decides.{decides-same, decides-no}
@@ -21,36 +21,39 @@ use Rattle.placing.proofs.trial.clash.Goals as goal
 
 pub distance-requires : goal.distance-requires
 distance-requires c =
-    (c.requires.0.on_x, rw c.place_at-t.ensures c.requires.1.on_plan.on_x)
+    let held = c.requires.1 in
+    (c.requires.0.on_x, (held.in_range.in_range c.args.j c.requires.2).on_x)
 
 pub returns-then-at_most : goal.returns-then-at_most
 returns-then-at_most c a e own_is toward_is =
     let own = c.args.own in
     let far = c.at_most.ensures.yes_holds c.if-at_most.true in
-    let apart = rw (ap (λ (l : Label). l.site) own_is, c.place_at-t.ensures) at c.distance.ensures in
+    let apart = rw (ap (λ (l : Label). l.site) own_is) at c.distance.ensures in
     decides-no (λ clash. omega (arith, far, c.doubled.ensures, apart, overlap-near (clash.meets X)))
 
 pub growth-requires : goal.growth-requires
 growth-requires c =
-    (c.requires.0, rw c.place_at-t.ensures c.requires.1.on_plan)
+    (c.requires.0, c.requires.1.in_range.in_range c.args.j c.requires.2)
 
 -- How far the labels of two sites grow, from what the pair test gives for the labels made of them.
-grown : {own : Label} {s t u : Place} {toward : Directions} {growth : Growth} (a e : ℕ)
+grown : {own : Label} {s : Place} {toward : Directions} {growth : Growth} (t : Place) (a e : ℕ)
     → ((c d : ℕ) → own.toward ≡ directions_of c → toward ≡ directions_of d → growth ≡ growth_of own.site c t d)
-    → t ≡ u → own ≡ label_at s a → toward ≡ directions_of e → growth ≡ growth_of s a u e
-grown a e told there own_is toward_is =
+    → own ≡ label_at s a → toward ≡ directions_of e → growth ≡ growth_of s a t e
+grown t a e told own_is toward_is =
     told a e (ap (λ (l : Label). l.toward) own_is) toward_is
-    ∙ ap₂ (λ (x y : Place). growth_of x a y e) (ap (λ (l : Label). l.site) own_is) there
+    ∙ ap (λ (x : Place). growth_of x a t e) (ap (λ (l : Label). l.site) own_is)
 
 pub returns-then-exceeds : goal.returns-then-exceeds
 returns-then-exceeds c a e own_is toward_is =
     let args = c.args in
-    let more = rw (grown a e c.growth.ensures c.place_at-t.ensures own_is toward_is) at (c.exceeds.ensures.yes_holds c.if-exceeds.true) in
-    decides-same (λ different. record { different = different; meets = (meet-exceeds args.side.0 1 (site_in c.args.xs.now c.args.ys.now c.args.k) a (site_in c.args.xs.now c.args.ys.now c.args.j) e).1 more })
+    let more = rw (grown _ a e c.growth.ensures own_is toward_is) at (c.exceeds.ensures.yes_holds c.if-exceeds.true) in
+    decides-same (λ different. record { different = different; meets = (meet-exceeds args.side.0 1 (site_at args.sites.now args.k) a (site_at args.sites.now args.j) e).1 more })
     (λ clash. clash.different) (not-decides (eq-decides args.j args.k))
 
 pub returns : goal.returns
 returns c a e own_is toward_is =
+    let args = c.args in
     decides-no (λ clash.
     c.exceeds.ensures.no_fails c.if-exceeds.false
-    (rw (grown a e c.growth.ensures c.place_at-t.ensures own_is toward_is) ((meet-exceeds _ 1 (site_in c.args.xs.now c.args.ys.now c.args.k) a (site_in c.args.xs.now c.args.ys.now c.args.j) e).0 clash.meets)))
+    (rw (grown _ a e c.growth.ensures own_is toward_is)
+    ((meet-exceeds _ 1 (site_at args.sites.now args.k) a (site_at args.sites.now args.j) e).0 clash.meets)))

@@ -1,24 +1,21 @@
--- `placing::trial::mark` meets its contract. The loop's invariant: the sites passed have their marks, and the table is kept from n on.
+-- `placing::trial::mark` meets its contract. The loop's invariant: the sites passed have their marks.
 -- Assumes nothing.
 use mathlib.Core.Path.{◌≡◌}
 use native.Mathlib.Omega.{arith}
 use Rattle.placing.specs.code.Filled.{filled_none, filled_next}
-use Rattle.placing.specs.code.Marks.{marked_all, kept_same, kept_set}
+use Rattle.placing.specs.code.Marks.{marked_all}
 use Rattle.placing.proofs.trial.mark.Goals as goal
 
 pub loop-j-init : goal.loop-j-init
 loop-j-init c =
-    (omega arith, filled_none, kept_same)
+    (omega arith, filled_none)
 
 pub loop-j-preserved : goal.loop-j-preserved
 loop-j-preserved c =
     let so_far = c.loop-j.invariant in
-    (omega arith, filled_next so_far.1 (omega arith) c.mark_of.ensures, kept_set _ c.loop-j-test.true so_far.2)
+    (omega arith, filled_next so_far.1 (omega arith) c.mark_of.ensures)
 
 pub returns : goal.returns
 returns c =
     let end : c.loop-j.j ≡ c.args.n = omega arith in
-    record {
-      marked = marked_all (rw end at c.loop-j.invariant.1);
-      kept = c.loop-j.invariant.2;
-    }
+    marked_all (rw end at c.loop-j.invariant.1)

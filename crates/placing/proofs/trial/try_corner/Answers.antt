@@ -1,7 +1,7 @@
 -- `placing::trial::try_corner` meets its contract: taking the corner starts a trial, and carrying on ends it; where it fails, the
 -- arrays are put back. Assumes nothing.
 use native.Mathlib.Nat.{le_of_lt, lt_trans}
-use Rattle.placing.specs.code.Marks.{kept-twice}
+use native.Mathlib.Omega.{arith}
 use Rattle.placing.specs.code.CarryOn.{taken-underway, trial-passes, trial-fails}
 use Rattle.placing.proofs.trial.try_corner.Goals as goal
 
@@ -11,27 +11,21 @@ carry_on-requires c =
     record {
       held = asked.held;
       sizes = c.take_corner.ensures.sizes;
-      room = rw c.mark.ensures.kept.size asked.room;
+      room = omega (arith, asked.room);
       underway = taken-underway asked.closed asked.listed asked.undecided asked.is_open c.take_corner.ensures
-          c.mark.ensures.marked;
+          c.mark.ensures;
       inside = le_of_lt asked.listed;
-      marked_below = λ j below. c.mark.ensures.marked.marked j (lt_trans below asked.listed) (asked.decided_below j below);
+      marked_below = λ j below. c.mark.ensures.marked j (lt_trans below asked.listed) (asked.decided_below j below);
     }
 
 pub returns-then-carry_on : goal.returns-then-carry_on
 returns-then-carry_on c =
     let asked = c.requires in
-    record {
-      tried = trial-passes asked.closed asked.listed asked.undecided asked.is_open c.take_corner.ensures c.mark.ensures.marked
-          c.carry_on.ensures.carried c.if-carry_on.true;
-      kept = kept-twice c.mark.ensures.kept c.carry_on.ensures.kept;
-    }
+    trial-passes asked.closed asked.listed asked.undecided asked.is_open c.take_corner.ensures c.mark.ensures c.carry_on.ensures
+    c.if-carry_on.true
 
 pub returns : goal.returns
 returns c =
     let asked = c.requires in
-    record {
-      tried = trial-fails asked.closed asked.listed asked.undecided asked.is_open c.take_corner.ensures c.mark.ensures.marked
-          c.carry_on.ensures.carried c.if-carry_on.false asked.sizes;
-      kept = kept-twice c.mark.ensures.kept c.carry_on.ensures.kept;
-    }
+    trial-fails asked.closed asked.listed asked.undecided asked.is_open c.take_corner.ensures c.mark.ensures c.carry_on.ensures
+    c.if-carry_on.false asked.sizes

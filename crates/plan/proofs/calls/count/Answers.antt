@@ -1,7 +1,0 @@
--- `count` meets its contract: the plan holds its sites. Assumes nothing.
-use Rattle.plan.specs.theorems.Plan.{valid-holding}
-use Rattle.plan.proofs.calls.count.Goals as goal
-
-pub returns : goal.returns
-returns c =
-    (valid-holding c.requires).count

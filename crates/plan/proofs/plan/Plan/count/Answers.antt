@@ -1,0 +1,7 @@
+-- `count` meets its contract: the plan holds its sites. Assumes nothing.
+use Rattle.plan.specs.theorems.Plan.{valid-holding}
+use Rattle.plan.proofs.plan.Plan.count.Goals as goal
+
+pub returns : goal.returns
+returns c =
+    (valid-holding c.requires).count

@@ -1,0 +1,68 @@
+-- `Plan::place_list_at` meets its contract: the side or the list is refused, or its plan is placed at the side, with a table that is enough
+-- for every plan. Assumes nothing.
+use mathlib.Core.Path.{◌≡◌, refl, sym, ap, ◌∙◌}
+use mathlib.Core.Bool.{true}
+use Prim.Native.Nat.{ℕ}
+use lib.ListN.{replicate, length-replicate}
+use Rattle.placing.specs.rules.Answer.{is_side}
+use Rattle.plan.specs.declared.plan.Plan.{Plan}
+use Rattle.plan.specs.declared.refusal.Refusal.TheVariants.{BadNumber}
+use Rattle.plan.specs.calls.Lengths.{full_table}
+use Rattle.plan.specs.theorems.Output.{list-told-at}
+use Rattle.plan.specs.code.CallLaws.{refusal-of, handed-back}
+use Rattle.plan.specs.code.Filling.{side-refused-at, reading-refused-at, choosing-done, choosing-refused}
+use Rattle.plan.proofs.plan.Plan.place_list_at.Goals as goal
+
+pub returns-then-not-is_side : goal.returns-then-not-is_side
+returns-then-not-is_side c =
+    let text = c.args.text.now in
+    let outside = sym c.is_side.ensures ∙ c.if-not-is_side.true in
+    let refused = ap (λ (p : Plan). refusal-of p BadNumber) c.start.ensures.answer ∙ side-refused-at c.args.way c.args.side text outside in
+    record {
+      answer = refused;
+      valid = c.start.ensures.valid;
+      told = list-told-at c.args.way c.args.side text refused;
+    }
+
+pub returns-in_err-read : goal.returns-in_err-read
+returns-in_err-read c =
+    let given : is_side c.args.side ≡ true =
+    sym c.is_side.ensures ∙ c.if-not-is_side.false in
+    let text = c.args.text.now in
+    let refused = handed-back c.read.new.self c.from_residual.ensures.1
+    ∙ reading-refused-at c.args.way c.args.side given text c.read.ensures.answer c.in_err-read.was in
+    record {
+      answer = refused;
+      valid = c.read.ensures.valid;
+      told = list-told-at c.args.way c.args.side text refused;
+    }
+
+pub choose_at-requires : goal.choose_at-requires
+choose_at-requires c = c.read.ensures.valid
+
+pub returns-in-Err : goal.returns-in-Err
+returns-in-Err c =
+    let given : is_side c.args.side ≡ true =
+    sym c.is_side.ensures ∙ c.if-not-is_side.false in
+    let text = c.args.text.now in
+    let refused = ap (λ (p : Plan). refusal-of p c.in-Err.why) c.start-in-Err.ensures.answer
+    ∙ choosing-refused c.args.way c.args.side given text (replicate full_table 0) (length-replicate {A = ℕ} full_table 0)
+    c.read.ensures.answer c.in_ok-read.was c.in-Err.ensures.answer refl in
+    record {
+      answer = refused;
+      valid = c.start-in-Err.ensures.valid;
+      told = list-told-at c.args.way c.args.side text refused;
+    }
+
+pub returns : goal.returns
+returns c =
+    let given : is_side c.args.side ≡ true =
+    sym c.is_side.ensures ∙ c.if-not-is_side.false in
+    let text = c.args.text.now in
+    let placed = choosing-done c.args.way c.args.side given text (replicate full_table 0) (length-replicate {A = ℕ} full_table 0)
+    c.read.ensures.answer c.in_ok-read.was c.in_default.ensures.answer refl in
+    record {
+      answer = placed;
+      valid = c.in_default.ensures.valid;
+      told = list-told-at c.args.way c.args.side text placed;
+    }

@@ -1,7 +1,0 @@
--- `Plan::placed_at` meets its contract: the record is the one it names. Assumes nothing.
-use mathlib.Core.Path.{refl}
-use Rattle.plan.proofs.plan.Plan.placed_at.Goals as goal
-
-pub returns : goal.returns
-returns c =
-    refl

@@ -5,7 +5,7 @@ ghost use Rattle.placing.specs.rules.Corner.{Corner, directions_of};
 ghost use Rattle.placing.specs.rules.Label.{Onward};
 ghost use Rattle.placing.specs.rules.Growth.{growth_number};
 ghost use Rattle.placing.specs.deciding.Decides.{Decides};
-ghost use Rattle.placing.specs.deciding.Growth.{growth_along, further_of, growth_of};
+ghost use Rattle.placing.specs.deciding.Growth.{growth_along, growth_of};
 ghost use Rattle.placing.specs.code.Reach.{LiesToward, distance_between};
 
 use crate::corner::{Direction, Directions, directions_of};
@@ -16,11 +16,7 @@ pub(crate) fn distance(a: Units, b: Units) -> HalfUnits
     requires { (a.0 ≤ greatest_coordinate) × (b.0 ≤ greatest_coordinate) }
     ensures { result.0 ≡ in_half_units (dist a.0 b.0) }
 {
-    if a <= b {
-        Units(b.0 - a.0).in_half_units()
-    } else {
-        Units(a.0 - b.0).in_half_units()
-    }
+    Units(a.0.abs_diff(b.0)).in_half_units()
 }
 
 // The distance between two places: the larger of their distances along the axes.
@@ -47,13 +43,7 @@ pub(crate) fn lies_toward(s: Place, c: u8, t: Place) -> bool
     ensures { Decides result (LiesToward s c t) }
 {
     let d = directions_of(c);
-    let dx = d.x;
-    let dy = d.y;
-    if onward(dx, s.x, t.x) {
-        onward(dy, s.y, t.y)
-    } else {
-        false
-    }
+    onward(d.x, s.x, t.x) && onward(d.y, s.y, t.y)
 }
 
 // How far the label that goes `d` from `a` and the one that goes `e` from `b` grow before they overlap along this axis. Two that face each
@@ -64,22 +54,11 @@ fn growth_along(d: Direction, a: Units, e: Direction, b: Units) -> Growth
 {
     let apart = distance(a, b);
     if d == e {
-        return Growth::UpTo(apart);
-    }
-    if onward(d, a, b) {
+        Growth::UpTo(apart)
+    } else if onward(d, a, b) {
         Growth::UpTo(apart.halved())
     } else {
         Growth::Never
-    }
-}
-
-// Of the growths along both axes the one up to which two labels do not meet: never if either is never, else the larger.
-fn further(x: Growth, y: Growth) -> Growth
-    ensures { result ≡ further_of x y }
-{
-    match (x, y) {
-        (Growth::UpTo(along_x), Growth::UpTo(along_y)) => Growth::UpTo(along_x.max(along_y)),
-        _ => Growth::Never,
     }
 }
 
@@ -91,24 +70,18 @@ pub(crate) struct Label {
     pub toward: Directions,
 }
 
-// The pair test: how far the two labels grow.
+// The pair test: how far the two labels grow. Of the growths along both axes it is the further, up to which they do not meet: never if either
+// is never, else the larger.
 pub(crate) fn growth(own: Label, other: Label) -> Growth
     requires { OnPlan own.site × OnPlan other.site }
     ensures { (c e : ℕ) → own.toward ≡ directions_of c → other.toward ≡ directions_of e
         → result ≡ growth_of own.site c other.site e }
 {
-    let s = own.site;
-    let t = other.site;
-    let d = own.toward;
-    let f = other.toward;
-    let dx = d.x;
-    let fx = f.x;
-    let dy = d.y;
-    let fy = f.y;
-    further(
-        growth_along(dx, s.x, fx, t.x),
-        growth_along(dy, s.y, fy, t.y),
-    )
+    let (s, t) = (own.site, other.site);
+    let (d, e) = (own.toward, other.toward);
+    let along_x = growth_along(d.x, s.x, e.x, t.x);
+    let along_y = growth_along(d.y, s.y, e.y, t.y);
+    along_x.max(along_y)
 }
 
 // The pair test for two places and two corners.

@@ -28,8 +28,8 @@ pub enum Side {
     Free,
 }
 
-// How far two labels grow: up to a side, the greatest at which they do not meet; or they never meet.
-#[derive(Clone, Copy, PartialEq, Eq)]
+// How far two labels grow: up to a side, the greatest at which they do not meet; or they never meet, which is further than any side.
+#[derive(Clone, Copy, PartialEq, Eq, PartialOrd, Ord)]
 pub enum Growth {
     UpTo(HalfUnits),
     Never,

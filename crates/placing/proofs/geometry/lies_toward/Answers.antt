@@ -13,4 +13,4 @@ returns-then-onward c =
 
 pub returns-else-onward : goal.returns-else-onward
 returns-else-onward c =
-    decides-no (λ lies. c.onward.ensures.no_fails c.if-onward.false (rw c.directions_of-d.ensures (lies X)))
+    rw c.if-onward.false (decides-no (λ lies. c.onward.ensures.no_fails c.if-onward.false (rw c.directions_of-d.ensures (lies X))))

@@ -15,14 +15,13 @@ use Rattle.placing.specs.rules.Units.{OnPlan, most_sites, nowhere}
 use Rattle.plan.specs.declared.name.Name.{Name}
 use Rattle.plan.specs.declared.plan.SiteRead.{SiteRead}
 use Rattle.plan.specs.declared.plan.Plan.{Plan}
-use Rattle.plan.specs.declared.plan.Planned.{Planned}
 use Rattle.plan.specs.declared.refusal.Refusal.{Refusal}
 use Rattle.plan.specs.declared.refusal.Refusal.TheVariants as why
 use Rattle.plan.specs.rules.Refusal.{Test, first_refusal, Result, refused, unless, after_tests}
 use Rattle.plan.specs.rules.Text.{most_name_bytes, is_name, or_zero}
 use Rattle.plan.specs.rules.List.{Site, place_at, name_taken, place_taken, ByRules, Wanted, enter_tests, with_site, entered, is_coordinate, wanted_of}
 use Rattle.plan.specs.calls.Plan.{unplaced_plan, name_of, name_held, Valid}
-use Rattle.plan.specs.calls.Answers.{handed, Outcome}
+use Rattle.plan.specs.calls.Answers.{handed, Outcome, Planned}
 use Rattle.plan.specs.theorems.Plan.{Holding}
 use Rattle.plan.specs.theorems.Entering.{Passed, tests-passed, coordinate-fits}
 use Rattle.plan.specs.code.NameRead.{Padded, no_name, name_read, name_where}

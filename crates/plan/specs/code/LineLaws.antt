@@ -2,7 +2,7 @@
 -- Assumes nothing.
 use Rattle.std.specs.Prelude.{◌≡◌, Bool, true, false, ◌≢◌, List, [], ◌∷◌, ◌++◌, ℕ, suc, ◌+◌, ◌-◌, ◌≤◌, ◌<◌, length, get_or, take, drop, min, cond, eqb, MatchOption, Option, Some, None, Ok, Err}
 use Rattle.std.specs.List.{AllWithin, HoldsAt, slice_split, onto_first}
-use Rattle.std.proofs.Common.{sym, ap, ap₂, ◌∙◌, subst, add-one, arith, length-append, length-drop, take-append-drop, drop-cons, drop-drop, get_or-drop, get_or-take, length-take-le, ne_eqb, le-ltb, lt-ltb}
+use Rattle.std.proofs.Common.{sym, ap, ◌∙◌, subst, add-one, arith, length-append, length-drop, take-append-drop, drop-cons, drop-drop, get_or-drop, get_or-take, length-take-le, ne_eqb, le-ltb, lt-ltb}
 use Rattle.std.specs.Option.{is_some, option_map}
 use Rattle.std.proofs.lemmas.Bool.{false≢true}
 use Rattle.std.proofs.Math.Path.{refl}

@@ -12,7 +12,7 @@ use Rattle.plan.proofs.name.is_name.Goals.{then-is_empty-via-then-is_empty, then
 pub returns-then-is_empty : goal.returns-then-is_empty
 returns-then-is_empty c =
     elim c.then-is_empty.branch [
-      then-is_empty-via-then-is_empty w ↦ sym (empty-no-name _ (eqb-true _ 0 (sym c.is_empty.ensures ∙ w.if-is_empty.true)))
+      | then-is_empty-via-then-is_empty w ↦ sym (empty-no-name _ (eqb-true _ 0 (sym c.is_empty.ensures ∙ w.if-is_empty.true)))
       | then-is_empty-via-else-is_empty+then-text-gt-LONGEST w ↦ sym (long-no-name _ w.if-text-gt-LONGEST.true)
     ]
 

@@ -26,7 +26,7 @@ returns c =
     let number : number_in text ≡ digits_after 0 text =
     number_digits text (omega (arith, eqb-false _ 0 (sym c.is_empty.ensures ∙ c.if-is_empty.false)))
     (λ long. elim c.else-text-gt1.branch [
-      else-text-gt1-via-then-text-gt1+else-text-eq48 w ↦ w.if-text-eq48.false
+      | else-text-gt1-via-then-text-gt1+else-text-eq48 w ↦ w.if-text-eq48.false
       | else-text-gt1-via-else-text-gt1 w ↦ absurd (omega arith)
     ]) in
     c.digits_from.ensures ∙ sym (ap (number_read args.most) number)

@@ -1,5 +1,5 @@
 -- `with_digit` meets its contract: a byte that is no digit writes nothing, and a digit is appended. Assumes nothing.
-use mathlib.Core.Path.{sym, ap, ◌∙◌}
+use mathlib.Core.Path.{sym, ◌∙◌}
 use Rattle.plan.specs.code.NumberLaws.{digit-read}
 use Rattle.plan.proofs.number.with_digit.Goals as goal
 

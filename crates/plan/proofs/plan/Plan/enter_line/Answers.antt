@@ -1,9 +1,8 @@
 -- `Plan::enter_line` meets its contract, by the step at which a line is refused. Assumes nothing.
-use Rattle.std.proofs.Common.{◌≡◌, Option, None, Some, Ok, Err, refl, sym, ◌∙◌, subst, arith}
+use Rattle.std.proofs.Common.{◌≡◌, Option, None, Some, Ok, Err, refl, subst}
 use Rattle.std.specs.Prelude as rattle
 use Rattle.std.specs.Option.{ok_or}
 use Rattle.plan.specs.declared.refusal.Refusal.{Refusal}
-use Rattle.plan.specs.declared.refusal.Refusal.TheVariants.{BadLine}
 use Rattle.plan.specs.rules.Text.{fields_of}
 use Rattle.plan.specs.code.CallLaws.{handed-on}
 use Rattle.plan.specs.code.Line.{LineEnds, LineReads, between}

@@ -1,11 +1,9 @@
 -- `Plan::enter_read` meets its contract: what is admitted passes every test, and makes the plan that of one site more.
 -- Assumes nothing.
-use Rattle.std.proofs.Common.{◌≡◌, ◌<◌, Ok, sym, ap₂, ◌∙◌, arith}
-use Rattle.std.specs.Prelude as rattle
+use Rattle.std.proofs.Common.{◌<◌, sym, ap₂, ◌∙◌, arith}
 use Rattle.placing.specs.declared.units.Place.{Place}
 use Rattle.placing.specs.rules.Units.{most_sites}
 use Rattle.plan.specs.declared.name.Name.{Name}
-use Rattle.plan.specs.declared.refusal.Refusal.{Refusal}
 use Rattle.plan.specs.calls.Plan.{sites_in}
 use Rattle.plan.specs.theorems.Entering.{passed-entered, passed-listed}
 use Rattle.plan.specs.theorems.Plan.{Holding, valid-holding}

@@ -1,118 +1,92 @@
 // What was counted over all lists.
-use crate::sites::FREE;
 use placing::way::Way;
-use std::io;
+use std::fmt;
+
+// A count. It stops at the greatest number, so that nothing is asked of it; none comes near.
+#[derive(Clone, Copy, Default)]
+pub struct Count(u64);
 
 // By one way.
-#[derive(Clone, Copy)]
+#[derive(Clone, Copy, Default)]
 pub struct Counts {
-    pub lists: u64,
-    pub free: u64,
-    pub even: u64,
-    pub odd: u64,
-    pub differences: u64,
-    pub given: u64,
-    pub without: u64,
-    pub differences_at: u64,
-}
-
-impl Counts {
-    pub fn none() -> Counts {
-        Counts {
-            lists: 0,
-            free: 0,
-            even: 0,
-            odd: 0,
-            differences: 0,
-            given: 0,
-            without: 0,
-            differences_at: 0,
-        }
-    }
+    pub lists: Count,
+    pub free: Count,
+    pub even: Count,
+    pub odd: Count,
+    pub differences: Count,
+    pub given: Count,
+    pub without: Count,
+    pub differences_at: Count,
 }
 
 // By each way. By the usual one also how many lists are in one straight row and have a choice over twice their side; above the spot, how
 // many have a smaller, the same and a greater side than by the usual way, free being the greatest.
-#[derive(Clone, Copy)]
+#[derive(Clone, Copy, Default)]
 pub struct Tally {
     pub usual: Counts,
-    pub in_one_row: u64,
-    pub over_twice: u64,
+    pub in_one_row: Count,
+    pub over_twice: Count,
     pub above: Counts,
-    pub smaller: u64,
-    pub same: u64,
-    pub greater: u64,
+    pub smaller: Count,
+    pub same: Count,
+    pub greater: Count,
+}
+
+impl Count {
+    // One more where `yes`.
+    pub fn add(&mut self, yes: bool) {
+        self.0 = self.0.saturating_add(u64::from(yes));
+    }
 }
 
 impl Tally {
-    pub fn none() -> Tally {
-        Tally {
-            usual: Counts::none(),
-            in_one_row: 0,
-            over_twice: 0,
-            above: Counts::none(),
-            smaller: 0,
-            same: 0,
-            greater: 0,
+    // What was counted by this way.
+    pub fn by(&mut self, way: Way) -> &mut Counts {
+        match way {
+            Way::Usual => &mut self.usual,
+            Way::Above => &mut self.above,
         }
     }
 }
 
-// One more where `yes`. The sum wraps, so that nothing is asked of the number; no count comes near the end.
-pub fn count(number: u64, yes: bool) -> u64 {
-    if yes {
-        std::num::wrapping_add_u64(number, 1)
-    } else {
-        number
+impl fmt::Display for Count {
+    fn fmt<W: fmt::Write>(&self, f: &mut fmt::Formatter<W>) -> fmt::Result {
+        write!(f, "{}", self.0)
     }
 }
 
-pub fn is_free(side: u64) -> bool {
-    side == FREE
+impl fmt::Display for Counts {
+    fn fmt<W: fmt::Write>(&self, f: &mut fmt::Formatter<W>) -> fmt::Result {
+        writeln!(f, "{} lists", self.lists)?;
+        writeln!(f, "{} free", self.free)?;
+        writeln!(f, "{} with an even side", self.even)?;
+        writeln!(f, "{} with an odd side", self.odd)?;
+        writeln!(f, "{} differences", self.differences)?;
+        writeln!(f, "{} given sides", self.given)?;
+        writeln!(f, "{} without a good choice", self.without)?;
+        writeln!(f, "{} differences there", self.differences_at)
+    }
 }
 
-pub fn is_even(side: u64) -> bool {
-    if is_free(side) { false } else { side % 2 == 0 }
+impl fmt::Display for Tally {
+    fn fmt<W: fmt::Write>(&self, f: &mut fmt::Formatter<W>) -> fmt::Result {
+        write!(f, "{}:\n{}", name_of(Way::Usual), self.usual)?;
+        writeln!(f, "{} in one straight row", self.in_one_row)?;
+        writeln!(
+            f,
+            "{} with a choice that holds at 2 x side + 1",
+            self.over_twice
+        )?;
+        write!(f, "{}:\n{}", name_of(Way::Above), self.above)?;
+        writeln!(f, "{} with a smaller side than the usual way", self.smaller)?;
+        writeln!(f, "{} with the same side", self.same)?;
+        writeln!(f, "{} with a greater side", self.greater)
+    }
 }
 
-pub fn is_odd(side: u64) -> bool {
-    if is_free(side) { false } else { side % 2 == 1 }
-}
-
-pub fn print_way(rt: &impl Print, way: Way) -> io::Result<()> {
+pub fn name_of(way: Way) -> &'static str {
     match way {
-        Way::Usual => print!(rt; "usual way"),
-        Way::Above => print!(rt; "above"),
+        Way::Usual => "usual way",
+        Way::Above => "above",
     }
-}
-
-fn print_count(rt: &impl Print, number: u64, what: &str) -> io::Result<()> {
-    println!(rt; "{number} {what}")
-}
-
-fn print_counts(rt: &impl Print, way: Way, counts: Counts) -> io::Result<()> {
-    print_way(rt, way)?;
-    println!(rt; ":")?;
-    print_count(rt, counts.lists, "lists")?;
-    print_count(rt, counts.free, "free")?;
-    print_count(rt, counts.even, "with an even side")?;
-    print_count(rt, counts.odd, "with an odd side")?;
-    print_count(rt, counts.differences, "differences")?;
-    print_count(rt, counts.given, "given sides")?;
-    print_count(rt, counts.without, "without a good choice")?;
-    print_count(rt, counts.differences_at, "differences there")
-}
-
-pub fn print_tally(rt: &impl Print, tally: Tally) -> io::Result<()> {
-    print_counts(rt, Way::Usual, tally.usual)?;
-    print_count(rt, tally.in_one_row, "in one straight row")?;
-    print_count(
-        rt,
-        tally.over_twice,
-        "with a choice that holds at 2 x side + 1",
-    )?;
-    print_counts(rt, Way::Above, tally.above)?;
-    print_count(rt, tally.smaller, "with a smaller side than the usual way")?;
-    print_count(rt, tally.same, "with the same side")?;
-    print_count(rt, tally.greater, "with a greater side")
 }

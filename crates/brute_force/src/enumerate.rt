@@ -1,104 +1,64 @@
 // The answer to a small list by trying every list of corners that a way has, from the rules of documents 01 and 02 alone.
 //
-// Each rule forbids the sides above some number, the limit. So a list of corners is good at h exactly when h is at most the least of
+// Each rule forbids the sides above some limit. So a list of corners is good at a side exactly when the side is at most the least of
 // its limits, and the greatest side with a good choice is the greatest of these over all lists of corners.
-ghost use Rattle.std.specs.Prelude.{◌<◌, ◌≤◌};
+ghost use Rattle.std.specs.Prelude.{◌≤◌};
 
-use crate::sites::{Answer, FREE, Place, Sites};
+use crate::answer::Answer;
+use crate::labels::{Label, labels_of};
+use crate::side::Side;
+use crate::sites::Place;
 use placing::way::Way;
-
-// The limit where a rule forbids no side. Every other limit is at most 20,000.
-const NO_LIMIT: u64 = 1_000_000;
-
-const POWERS_OF_4: [u64; 8] = [1, 4, 16, 64, 256, 1_024, 4_096, 16_384];
-
-const POWERS_OF_2: [u64; 8] = [1, 2, 4, 8, 16, 32, 64, 128];
+use std::alloc::{AllocError, Global};
 
 // Which lists of corners are good: of corners 1 to `last`, with no two labels that meet and, where crowding counts, no crowded corner.
 #[derive(Clone, Copy)]
 struct Rules {
     last: u64,
     crowding: bool,
+    ghost corners: { (1 ≤ last) × (last ≤ 4) },
 }
 
-// A list of corners and its limit.
+// The first list of corners.
+const FIRST: [u8; 7] = [1; 7];
+
+// The number of a list of corners, in list order, and its limit.
 #[derive(Clone, Copy)]
 struct Choice {
-    limit: u64,
-    corners: [u8; 7],
-}
-
-pub fn greater(a: u64, b: u64) -> u64 {
-    if a < b { b } else { a }
-}
-
-pub fn lesser(a: u64, b: u64) -> u64
-    ensures { result ≤ b }
-{
-    if a < b { a } else { b }
-}
-
-// Corners 1 and 4 put the label right of its site, 2 and 3 left.
-fn goes_right(corner: u8) -> bool {
-    match corner {
-        1 | 4 => true,
-        _ => false,
-    }
-}
-
-// Corners 1 and 2 put the label up of its site, 3 and 4 down.
-fn goes_up(corner: u8) -> bool {
-    match corner {
-        1 | 2 => true,
-        _ => false,
-    }
+    number: u64,
+    limit: Side,
 }
 
 // How far `to` lies up the axis from `from`; no limit where it lies down the axis.
-fn rise(from: u32, to: u32) -> u64 {
-    if from <= to {
-        (to - from) as u64
-    } else {
-        NO_LIMIT
-    }
+fn rise(from: u32, to: u32) -> Side {
+    to.checked_sub(from)
+        .map_or(Side::Free, |d| Side::Number(u64::from(d)))
 }
 
 // Same direction: two labels overlap along the axis exactly when h > 2 × |d|.
 pub fn same_direction(a: u32, b: u32) -> u64 {
-    if a < b {
-        2 * ((b - a) as u64)
-    } else {
-        2 * ((a - b) as u64)
-    }
+    2 * u64::from(a.abs_diff(b))
 }
 
 // Up to which side the labels at `a` and `b` do not overlap along one axis. Opposite directions: let d be the place of the label
 // that goes down the axis minus the place of the one that goes up it; they overlap exactly when d ≥ 0 and h > d.
-fn overlap_limit(a: u32, a_up: bool, b: u32, b_up: bool) -> u64 {
-    if a_up {
-        if b_up {
-            same_direction(a, b)
-        } else {
-            rise(a, b)
-        }
-    } else {
-        if b_up {
-            rise(b, a)
-        } else {
-            same_direction(a, b)
-        }
+fn overlap_limit(a: u32, a_up: bool, b: u32, b_up: bool) -> Side {
+    match (a_up, b_up) {
+        (true, false) => rise(a, b),
+        (false, true) => rise(b, a),
+        _ => Side::Number(same_direction(a, b)),
     }
 }
 
 // Labels meet when they overlap along x and along y: up to the greater of the two limits they do not.
-fn meeting_limit(a: Place, a_corner: u8, b: Place, b_corner: u8) -> u64 {
-    let x = overlap_limit(a.x, goes_right(a_corner), b.x, goes_right(b_corner));
-    let y = overlap_limit(a.y, goes_up(a_corner), b.y, goes_up(b_corner));
-    greater(x, y)
+fn meeting_limit(a: Label, b: Label) -> Side {
+    let x = overlap_limit(a.place.x, a.goes_right(), b.place.x, b.goes_right());
+    let y = overlap_limit(a.place.y, a.goes_up(), b.place.y, b.goes_up());
+    x.max(y)
 }
 
 // How far `other` lies from `place` in the label's own direction; no limit where it lies behind.
-fn ahead(place: u32, up: bool, other: u32) -> u64 {
+fn ahead(place: u32, up: bool, other: u32) -> Side {
     if up {
         rise(place, other)
     } else {
@@ -107,168 +67,139 @@ fn ahead(place: u32, up: bool, other: u32) -> u64 {
 }
 
 // A corner is crowded at h when another site lies at a ≥ 0 and b ≥ 0 in the label's directions, the larger of them below h.
-fn crowding_limit(place: Place, corner: u8, other: Place) -> u64 {
-    let a = ahead(place.x, goes_right(corner), other.x);
-    let b = ahead(place.y, goes_up(corner), other.y);
-    greater(a, b)
+fn crowding_limit(mine: Label, other: Place) -> Side {
+    let a = ahead(mine.place.x, mine.goes_right(), other.x);
+    let b = ahead(mine.place.y, mine.goes_up(), other.y);
+    a.max(b)
 }
 
-// The limit that another site and its corner set for a label. Crowding counts where `crowding` says so.
-fn pair_limit(mine: Place, corner: u8, other: Place, other_corner: u8, crowding: bool) -> u64 {
-    let meeting = meeting_limit(mine, corner, other, other_corner);
-    if crowding {
-        lesser(meeting, crowding_limit(mine, corner, other))
-    } else {
-        meeting
-    }
-}
-
-// The least limit that the other sites set for the label of site `i`.
-fn site_limit(sites: Sites, corners: [u8; 7], i: usize, crowding: bool) -> u64
-    requires { (sites.n ≤ 7) × (i < 7) }
-{
-    let n = sites.n;
-    let places = sites.places;
-    let mine = places[i];
-    let corner = corners[i];
-    let mut least = NO_LIMIT;
-    for j in 0..n {
-        if j != i {
-            least = lesser(
-                least,
-                pair_limit(mine, corner, places[j], corners[j], crowding),
-            );
+impl Rules {
+    // The rules of a way: those of document 01; above the spot, document 02, L2: "any choice of 1 and 2 without meeting labels counts".
+    fn of(way: Way) -> Rules {
+        match way {
+            Way::Usual => Rules {
+                last: 4,
+                crowding: true,
+            },
+            Way::Above => Rules {
+                last: 2,
+                crowding: false,
+            },
         }
     }
-    least
-}
 
-// The limit of a list of corners. Where it is not above `floor`, some number not above `floor`.
-fn choice_limit(sites: Sites, corners: [u8; 7], crowding: bool, floor: u64) -> u64
-    requires { sites.n ≤ 7 }
-{
-    let n = sites.n;
-    let mut least = NO_LIMIT;
-    for i in 0..n {
-        least = lesser(least, site_limit(sites, corners, i, crowding));
-        if least <= floor {
-            return least;
+    // The limit that a label and another one set for the first; no limit where they are of one site.
+    fn pair_limit(self, mine: Label, other: Label) -> Side {
+        if mine.place == other.place {
+            return Side::Free;
+        }
+        let meeting = meeting_limit(mine, other);
+        if self.crowding {
+            meeting.min(crowding_limit(mine, other.place))
+        } else {
+            meeting
         }
     }
-    least
-}
 
-// The rules of a way: those of document 01; above the spot, document 02, L2: "any choice of 1 and 2 without meeting labels counts".
-fn rules_of(way: Way) -> Rules
-    ensures { (1 ≤ result.last) × (result.last ≤ 4) }
-{
-    match way {
-        Way::Usual => Rules {
-            last: 4,
-            crowding: true,
-        },
-        Way::Above => Rules {
-            last: 2,
-            crowding: false,
-        },
+    // All limits of these labels pass this test.
+    fn all_limits<F: Fn(Side) -> bool>(self, labels: &[Label], passes: F) -> bool
+        requires { F.IsAlwaysCallable passes }
+    {
+        labels.iter().all(|mine| {
+            labels
+                .iter()
+                .all(|other| passes(self.pair_limit(*mine, *other)))
+        })
     }
-}
 
-// The list of corners 1 to `last` with this number in list order, from 0: the last site's corner changes fastest.
-fn nth_corners(number: u64, n: usize, last: u64) -> [u8; 7]
-    requires { (n ≤ 7) × (1 ≤ last) × (last ≤ 4) }
-{
-    let mut corners = [0u8; 7];
-    let mut rest = number;
-    let mut i = n;
-    while 0 < i {
-        i -= 1;
-        corners[i] = (rest % last) as u8 + 1;
-        rest /= last;
+    // The least limit of these labels.
+    fn limit(self, labels: &[Label]) -> Side {
+        let of_label = |mine: &Label| {
+            labels
+                .iter()
+                .map(|other| self.pair_limit(*mine, *other))
+                .min()
+                .unwrap_or(Side::Free)
+        };
+        labels.iter().map(of_label).min().unwrap_or(Side::Free)
     }
-    corners
-}
 
-// How many lists of corners 1 to `last`, 4 or 2, `n` sites have.
-fn choices(n: usize, last: u64) -> u64
-    requires { n ≤ 7 }
-{
-    if last == 4 {
-        POWERS_OF_4[n]
-    } else {
-        POWERS_OF_2[n]
+    // How many lists of corners 1 to `last` the labels have.
+    fn count(self, labels: &[Label]) -> u64 {
+        labels
+            .iter()
+            .fold(1u64, |count, _| count.saturating_mul(self.last))
     }
-}
 
-// The choice with this number where its limit is above that of `best`, and `best` elsewhere.
-fn better(sites: Sites, rules: Rules, number: u64, best: Choice) -> Choice
-    requires { (sites.n ≤ 7) × (1 ≤ rules.last) × (rules.last ≤ 4) }
-{
-    let corners = nth_corners(number, sites.n, rules.last);
-    let limit = choice_limit(sites, corners, rules.crowding, best.limit);
-    if limit <= best.limit {
-        return best;
+    // Gives the labels the list of corners with this number in list order, from 0: the last site's corner changes fastest.
+    fn set_corners(self, labels: &mut [Label], number: u64) {
+        let mut rest = number;
+        for label in labels.iter_mut().rev() {
+            label.corner = (rest % self.last) as u8 + 1;
+            rest /= self.last;
+        }
     }
-    Choice {
-        limit: limit,
-        corners: corners,
-    }
-}
 
-// Of all lists of corners with a limit above `floor`, the first with the greatest limit. Where there is none the limit is `floor`.
-fn best_choice(sites: Sites, rules: Rules, floor: u64) -> Choice
-    requires { (sites.n ≤ 7) × (1 ≤ rules.last) × (rules.last ≤ 4) }
-{
-    let end = choices(sites.n, rules.last);
-    let mut best = Choice {
-        limit: floor,
-        corners: [0u8; 7],
-    };
-    for number in 0..end {
-        best = better(sites, rules, number, best);
+    // Of all lists of corners with a limit above `floor`, the first with the greatest limit.
+    fn best(self, labels: &mut [Label], floor: Side) -> Option<Choice> {
+        let mut best = None;
+        let mut most = floor;
+        for number in 0..self.count(labels) {
+            self.set_corners(labels, number);
+            if self.all_limits(labels, |limit| limit > most) {
+                most = self.limit(labels);
+                best = Some(Choice {
+                    number,
+                    limit: most,
+                });
+            }
+        }
+        best
     }
-    best
 }
 
 // The answer by a way: the greatest side that has a good choice, or free, with the first good choice there.
-pub fn enumerate(sites: Sites, way: Way) -> Answer
-    requires { sites.n ≤ 7 }
-    ensures { result.side ≤ 20001 }
-{
-    let best = best_choice(sites, rules_of(way), 0);
-    let corners = best.corners;
-    Answer {
-        side: lesser(best.limit, FREE),
-        corners: corners,
-    }
+pub fn enumerate(alloc: Global, sites: &[Place], way: Way) -> Result<Answer, AllocError> {
+    let rules = Rules::of(way);
+    let mut labels = labels_of(alloc, sites, &FIRST)?;
+    let Some(best) = rules.best(&mut labels, Side::Number(0)) else {
+        return Ok(Answer::none(Side::Number(0)));
+    };
+    rules.set_corners(&mut labels, best.number);
+    Ok(Answer {
+        side: best.limit,
+        labels: Some(labels),
+    })
 }
 
 // The answer by a way at a given side: the first list of corners that is good there.
-pub fn enumerate_at(sites: Sites, way: Way, side: u64) -> Answer
-    requires { (sites.n ≤ 7) × (1 ≤ side) }
-{
-    let rules = rules_of(way);
-    let end = choices(sites.n, rules.last);
-    for number in 0..end {
-        let corners = nth_corners(number, sites.n, rules.last);
-        if side <= choice_limit(sites, corners, rules.crowding, side - 1) {
-            return Answer { side, corners };
+pub fn enumerate_at(
+    alloc: Global,
+    sites: &[Place],
+    way: Way,
+    side: Side,
+) -> Result<Answer, AllocError> {
+    let rules = Rules::of(way);
+    let mut labels = labels_of(alloc, sites, &FIRST)?;
+    for number in 0..rules.count(&labels) {
+        rules.set_corners(&mut labels, number);
+        if rules.all_limits(&labels, |limit| limit >= side) {
+            return Ok(Answer {
+                side,
+                labels: Some(labels),
+            });
         }
     }
-    Answer {
-        side,
-        corners: [0u8; 7],
-    }
+    Ok(Answer::none(side))
 }
 
 // Some list of the four corners has no two labels that meet at 2 × side + 1; crowding plays no part.
-pub fn holds_over_twice(sites: Sites, side: u64) -> bool
-    requires { (sites.n ≤ 7) × (side ≤ 20001) }
-{
+pub fn holds_over_twice(alloc: Global, sites: &[Place], side: u64) -> Result<bool, AllocError> {
     let crowded_or_not = Rules {
         last: 4,
         crowding: false,
     };
-    let best = best_choice(sites, crowded_or_not, 2 * side);
-    2 * side < best.limit
+    let mut labels = labels_of(alloc, sites, &FIRST)?;
+    let twice = Side::Number(side.saturating_mul(2));
+    Ok(crowded_or_not.best(&mut labels, twice).is_some())
 }

@@ -4,51 +4,51 @@
 // what holds at a fraction greater than a side holds at the next side.
 ghost use Rattle.std.specs.Prelude.{◌≤◌};
 
-use crate::enumerate::{greater, lesser, same_direction};
-use crate::sites::{FREE, Sites};
+use crate::enumerate::same_direction;
+use crate::side::Side;
+use crate::sites::Place;
 
-// How many there are.
-pub const SIDES: u64 = 7;
+// The greatest number that is a side.
+const GREATEST: u64 = 20_000;
 
-// Twice the distance of the first two sites, at most 20,000.
-fn twice_apart(sites: Sites) -> u64
+// Twice the distance of the first two sites, at most 20,000; of a lone site from 0, 0.
+fn twice_apart(sites: &[Place]) -> u64
     ensures { result ≤ 20000 }
 {
-    let places = sites.places;
-    let a = places[0];
-    let b = places[1];
-    lesser(
-        greater(same_direction(a.x, b.x), same_direction(a.y, b.y)),
-        20_000,
-    )
+    let a = sites.first().copied().unwrap_or(Place { x: 0, y: 0 });
+    let b = sites.get(1).copied().unwrap_or(Place { x: 0, y: 0 });
+    same_direction(a.x, b.x)
+        .max(same_direction(a.y, b.y))
+        .min(GREATEST)
 }
 
-// The nearest side from 1 to 20,000, or FREE.
-fn in_range(h: u64) -> u64
-    ensures { (1 ≤ result) × (result ≤ 20001) }
-{
-    if h == 0 {
-        return 1;
+// The nearest side from 1 to 20,000, or free.
+fn in_range(h: u64) -> Side {
+    if h > GREATEST {
+        Side::Free
+    } else {
+        Side::Number(h.max(1))
     }
-    if h > FREE {
-        return FREE;
-    }
-    h
 }
 
-// Number `k` of them, for a list with this side.
-pub fn given(sites: Sites, side: u64, k: u64) -> u64
-    requires { side ≤ 20001 }
-    ensures { (1 ≤ result) × (result ≤ 20001) }
-{
+// The side next after this one.
+fn next(side: Side) -> Side {
+    match side {
+        Side::Number(h) => in_range(h.saturating_add(1)),
+        Side::Free => Side::Free,
+    }
+}
+
+// The sides for a list with this side.
+pub fn given(sites: &[Place], side: Side) -> [Side; 7] {
     let twice = twice_apart(sites);
-    match k {
-        0 => in_range(twice / 2),
-        1 => in_range(twice / 2 + 1),
-        2 => in_range(twice),
-        3 => in_range(twice + 1),
-        4 => in_range(side),
-        5 => in_range(side + 1),
-        _ => FREE,
-    }
+    [
+        in_range(twice / 2),
+        in_range(twice / 2 + 1),
+        in_range(twice),
+        in_range(twice + 1),
+        side,
+        next(side),
+        Side::Free,
+    ]
 }

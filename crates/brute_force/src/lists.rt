@@ -1,8 +1,9 @@
 // Random lists: 1 to 7 sites, all places distinct, in one of several shapes and ranges of coordinates.
 ghost use Rattle.std.specs.Prelude.{◌≤◌};
 
-use crate::random::draw;
-use crate::sites::{Place, Sites, taken};
+use crate::random::Random;
+use crate::sites::Place;
+use std::alloc::{AllocError, Global};
 
 // How many places are drawn for one list.
 const DRAWS: u32 = 40;
@@ -26,10 +27,12 @@ struct Frame {
     last: u32,
     here: Place,
     there: Place,
+    ghost here_on_plan: { (here.x ≤ 9998) × (here.y ≤ 9998) },
+    ghost there_on_plan: { (there.x ≤ 9998) × (there.y ≤ 9998) },
 }
 
-fn draw_shape(state: &mut u64) -> Shape {
-    match draw(state, 6) {
+fn draw_shape(random: &mut Random) -> Shape {
+    match random.up_to(5) {
         0 => Shape::Scattered,
         1 => Shape::Row,
         2 => Shape::Column,
@@ -40,10 +43,10 @@ fn draw_shape(state: &mut u64) -> Shape {
 }
 
 // The greatest coordinate of a list.
-fn draw_last(state: &mut u64) -> u32
+fn draw_last(random: &mut Random) -> u32
     ensures { (2 ≤ result) × (result ≤ 10000) }
 {
-    match draw(state, 8) {
+    match random.up_to(7) {
         0 => 2,
         1 => 3,
         2 => 5,
@@ -56,112 +59,68 @@ fn draw_last(state: &mut u64) -> u32
 }
 
 // A place with both coordinates from 0 to `last`.
-fn draw_point(state: &mut u64, last: u32) -> Place
-    requires { last ≤ 10000 }
+fn draw_point(random: &mut Random, last: u32) -> Place
     ensures { (result.x ≤ last) × (result.y ≤ last) }
 {
-    let x = draw(state, last + 1);
-    let y = draw(state, last + 1);
-    Place { x: x, y: y }
+    let x = random.up_to(last);
+    let y = random.up_to(last);
+    Place { x, y }
 }
 
-fn draw_frame(state: &mut u64) -> Frame
-    ensures { (result.last ≤ 10000) × (result.here.x ≤ 9998) × (result.here.y ≤ 9998) × (result.there.x ≤ 9998) × (result.there.y ≤ 9998) }
-{
-    let shape = draw_shape(state);
-    let last = draw_last(state);
-    let here = draw_point(state, last - 2);
-    let there = draw_point(state, last - 2);
+fn draw_frame(random: &mut Random) -> Frame {
+    let shape = draw_shape(random);
+    let last = draw_last(random);
+    let here = draw_point(random, last - 2);
+    let there = draw_point(random, last - 2);
     Frame {
-        shape: shape,
-        last: last,
-        here: here,
-        there: there,
-    }
-}
-
-// A place near one of two points.
-fn draw_near(state: &mut u64, here: Place, there: Place) -> Place
-    requires { (here.x ≤ 9998) × (here.y ≤ 9998) × (there.x ≤ 9998) × (there.y ≤ 9998) }
-{
-    let off = draw_point(state, 2);
-    if draw(state, 2) == 0 {
-        Place {
-            x: here.x + off.x,
-            y: here.y + off.y,
-        }
-    } else {
-        Place {
-            x: there.x + off.x,
-            y: there.y + off.y,
-        }
+        shape,
+        last,
+        here,
+        there,
     }
 }
 
 // A place in this frame.
-fn draw_place(state: &mut u64, frame: Frame) -> Place
-    requires { (frame.last ≤ 10000) × (frame.here.x ≤ 9998) × (frame.here.y ≤ 9998) × (frame.there.x ≤ 9998) × (frame.there.y ≤ 9998) }
-{
-    let shape = frame.shape;
-    let last = frame.last;
-    let here = frame.here;
-    let there = frame.there;
-    let point = draw_point(state, last);
-    match shape {
+fn draw_place(random: &mut Random, frame: Frame) -> Place {
+    let point = draw_point(random, frame.last);
+    let Place { x, y } = point;
+    match frame.shape {
         Shape::Scattered => point,
-        Shape::Row => Place {
-            x: point.x,
-            y: here.y,
-        },
-        Shape::Column => Place {
-            x: here.x,
-            y: point.y,
-        },
-        Shape::Rising => Place {
-            x: point.x,
-            y: point.x,
-        },
+        Shape::Row => Place { x, y: frame.here.y },
+        Shape::Column => Place { x: frame.here.x, y },
+        Shape::Rising => Place { x, y: x },
         Shape::Falling => Place {
-            x: point.x,
-            y: last - point.x,
+            x,
+            y: frame.last - x,
         },
-        Shape::Clusters => draw_near(state, here, there),
+        Shape::Clusters => draw_near(random, frame),
     }
 }
 
-// The sites with one more at this place, unless it is taken or there are `count` sites.
-fn with_place(sites: Sites, place: Place, count: usize) -> Sites
-    requires { (sites.n ≤ 7) × (count ≤ 7) }
-    ensures { result.n ≤ 7 }
-{
-    let n = sites.n;
-    if count <= n {
-        return sites;
-    }
-    if taken(sites, place) {
-        return sites;
-    }
-    let mut places = sites.places;
-    places[n] = place;
-    Sites {
-        n: n + 1,
-        places: places,
+// A place near one of the frame's two points.
+fn draw_near(random: &mut Random, frame: Frame) -> Place {
+    let off = draw_point(random, 2);
+    let near = if random.up_to(1) == 0 {
+        frame.here
+    } else {
+        frame.there
+    };
+    Place {
+        x: near.x + off.x,
+        y: near.y + off.y,
     }
 }
 
 // A list of 1 to 7 sites: of as many as are drawn for it, or fewer where the draws do not find so many places.
-pub fn draw_sites(state: &mut u64) -> Sites
-    ensures { result.n ≤ 7 }
-{
-    let count = draw(state, 7) as usize + 1;
-    let frame = draw_frame(state);
-    let mut sites = Sites {
-        n: 0,
-        places: [Place { x: 0, y: 0 }; 7],
-    };
+pub fn draw_sites(alloc: Global, random: &mut Random) -> Result<Vec<Place>, AllocError> {
+    let count = random.up_to(6) as usize + 1;
+    let frame = draw_frame(random);
+    let mut sites = Vec::new(alloc);
     for _ in 0..DRAWS {
-        let place = draw_place(state, frame);
-        sites = with_place(sites, place, count);
+        let place = draw_place(random, frame);
+        if sites.len() < count && !sites.contains(&place) {
+            sites.push(place)?;
+        }
     }
-    sites
+    Ok(sites)
 }

@@ -2,20 +2,21 @@
 // compared, and the counts printed; then the same with answers that are meant to come out wrong.
 #![tactic(auto)]
 
+mod answer;
 mod counts;
 mod enumerate;
 mod given;
+mod labels;
 mod lists;
 mod product;
 mod random;
-mod sheet;
+mod side;
 mod sites;
-mod text;
 mod trial;
 mod wrong;
 
-use crate::counts::{Tally, print_tally};
-use crate::random::SEED;
+use crate::counts::Tally;
+use crate::random::Random;
 use crate::trial::trial;
 use crate::wrong::print_wrong;
 use std::io;
@@ -23,11 +24,11 @@ use std::io;
 const LISTS: u32 = 4_000;
 
 fn main(rt: HostRuntime) -> io::Result<()> {
-    let mut state = SEED;
-    let mut tally = Tally::none();
+    let mut random = Random::new();
+    let mut tally = Tally::default();
     for _ in 0..LISTS {
-        tally = trial(&rt, &mut state, tally)?;
+        trial(&rt, &mut tally, &mut random)?;
     }
-    print_tally(&rt, tally)?;
+    print!(rt; "{tally}")?;
     print_wrong(&rt)
 }

@@ -1,40 +1,35 @@
 // The product's output by a way, through list text.
-ghost use Rattle.std.specs.Prelude.{◌≤◌};
-ghost use Rattle.test_text.specs.Counts.{IsPrefixLen};
-
-use crate::sheet::put_size;
-use crate::sites::Sites;
-use crate::text::{LIST_BYTES, put_list};
+use crate::side::Side;
+use crate::sites::{Place, list_of};
 use placing::way::Way;
 use plan::limits::TextLimits;
 use plan::number::side_from;
 use plan::output::{output, output_at};
-use test_text::within;
+use std::alloc::{AllocError, Global};
 
-// Writes the output for these sites into the buffer and gives its length.
-pub fn put_output(buffer: &mut [u8; TextLimits::SHEET], sites: Sites, way: Way) -> usize
-    requires { sites.n ≤ 7 }
-    ensures { IsPrefixLen result buffer.new }
-{
-    let mut list = [0u8; LIST_BYTES];
-    let len = put_list(&mut list, sites);
-    output(&list[..len], way, buffer)
+// The output for these sites.
+pub fn output_of(alloc: Global, sites: &[Place], way: Way) -> Result<Vec<u8>, AllocError> {
+    let list = list_of(alloc, sites)?;
+    let mut buffer = [0u8; TextLimits::SHEET];
+    let n = output(list.as_bytes(), way, &mut buffer);
+    Vec::from_slice(alloc, &buffer[..n])
 }
 
 // The same at a given side, which goes by its word.
-pub fn put_output_at(
-    buffer: &mut [u8; TextLimits::SHEET],
-    sites: Sites,
+pub fn output_of_at(
+    alloc: Global,
+    sites: &[Place],
     way: Way,
-    side: u64,
-) -> usize
-    requires { sites.n ≤ 7 }
-    ensures { IsPrefixLen result buffer.new }
-{
-    let mut list = [0u8; LIST_BYTES];
-    let len = put_list(&mut list, sites);
-    let mut word = [0u8; 5];
-    let size = put_size(&mut word, 0, side);
-    let end = within(size, &word);
-    output_at(&list[..len], way, side_from(&word[..end]), buffer)
+    side: Side,
+) -> Result<Vec<u8>, AllocError> {
+    let list = list_of(alloc, sites)?;
+    let word = side.to_string(alloc)?;
+    let mut buffer = [0u8; TextLimits::SHEET];
+    let n = output_at(
+        list.as_bytes(),
+        way,
+        side_from(word.as_bytes()),
+        &mut buffer,
+    );
+    Vec::from_slice(alloc, &buffer[..n])
 }

@@ -1,95 +1,83 @@
 // Answers that are wrong for document 01's list A, B, C, whose side is 6 with corners 3, 1, 1, and above the spot 8 with 1, 1, 1, and for a
 // column of seven sites. Judging the product by them is meant to tell of a difference each, so that the stored output changes when the comparing breaks, or when a way
 // is taken for the other.
-ghost use Rattle.std.specs.Prelude.{◌≡◌, ◌≤◌};
-
-use crate::counts::{Counts, Tally, print_tally};
-use crate::sites::{Answer, Place, Sites};
-use crate::trial::{judged, judged_at};
+use crate::answer::Answer;
+use crate::counts::Tally;
+use crate::labels::labels_of;
+use crate::side::Side;
+use crate::sites::Place;
+use crate::trial::{judge, judge_at};
 use placing::way::Way;
+use std::alloc::{AllocError, Global};
 use std::io;
 
-fn column() -> Sites
-    ensures { result.n ≤ 7 }
-{
-    let mut places = [Place { x: 10, y: 10 }; 7];
-    places[1] = Place { x: 10, y: 14 };
-    places[2] = Place { x: 10, y: 20 };
-    Sites {
-        n: 3,
-        places: places,
-    }
+// A column of seven sites; the first three are A, B, C.
+const SEVEN: [Place; 7] = [
+    Place { x: 10, y: 10 },
+    Place { x: 10, y: 14 },
+    Place { x: 10, y: 20 },
+    Place { x: 10, y: 30 },
+    Place { x: 10, y: 40 },
+    Place { x: 10, y: 50 },
+    Place { x: 10, y: 60 },
+];
+
+// An answer with these corners for the first of the sites.
+fn answer(alloc: Global, side: u64, corners: &[u8]) -> Result<Answer, AllocError> {
+    Ok(Answer {
+        side: Side::Number(side),
+        labels: Some(labels_of(alloc, &SEVEN, corners)?),
+    })
 }
 
-// The same with four sites more.
-fn seven() -> Sites
-    ensures { result.n ≤ 7 }
-{
-    let mut places = column().places;
-    places[3] = Place { x: 10, y: 30 };
-    places[4] = Place { x: 10, y: 40 };
-    places[5] = Place { x: 10, y: 50 };
-    places[6] = Place { x: 10, y: 60 };
-    Sites {
-        n: 7,
-        places: places,
-    }
-}
-
-// An answer for A, B, C.
-fn answer(side: u64, a: u8, b: u8, c: u8) -> Answer
-    ensures { result.side ≡ side }
-{
-    Answer {
-        side,
-        corners: [a, b, c, 0, 0, 0, 0],
-    }
-}
-
-// Judges by three answers at given sides: other corners, corners where no choice is good, and none where one is.
-fn judged_at_sides(
-    rt: &impl Print,
-    counts: Counts,
+// Judges the product for A, B, C at given sides by a way.
+fn judge_at_sides(
+    rt: &(impl Print + AllocGlobal),
+    tally: &mut Tally,
     way: Way,
-    other: Answer,
-    corners: Answer,
-    none: Answer,
-) -> io::Result<Counts> {
-    let one = judged_at(rt, counts, column(), way, other)?;
-    let two = judged_at(rt, one, column(), way, corners)?;
-    judged_at(rt, two, column(), way, none)
+    answers: [Answer; 3],
+) -> io::Result<()> {
+    for right in &answers {
+        judge_at(rt, tally, &SEVEN[..3], way, right)?;
+    }
+    Ok(())
 }
 
 // At the side found: first a side that is too small by one, so that a choice holds at twice it and one more, and above the spot the usual
-// answer; then another last corner. At the given side above the spot, the other corners are the usual ones there.
-pub fn print_wrong(rt: &impl Print) -> io::Result<()> {
+// answer; then another last corner. At given sides other corners, corners where no choice is good, and none where one is; above the spot
+// the other corners are the usual ones there.
+pub fn print_wrong(rt: &(impl Print + AllocGlobal)) -> io::Result<()> {
+    let alloc = rt.alloc();
+    let column = &SEVEN[..3];
+    let mut tally = Tally::default();
     println!(rt; "meant to come out wrong:")?;
-    let one = judged(
+    judge(
         rt,
-        Tally::none(),
-        column(),
-        answer(5, 3, 1, 1),
-        answer(6, 3, 1, 1),
+        &mut tally,
+        column,
+        &answer(alloc, 5, &[3, 1, 1])?,
+        &answer(alloc, 6, &[3, 1, 1])?,
     )?;
-    let mut two = judged(rt, one, column(), answer(6, 3, 1, 2), answer(8, 1, 1, 2))?;
-    let usual = judged_at_sides(
+    judge(
         rt,
-        two.usual,
-        Way::Usual,
-        answer(5, 1, 1, 1),
-        answer(7, 3, 1, 1),
-        answer(6, 0, 0, 0),
+        &mut tally,
+        column,
+        &answer(alloc, 6, &[3, 1, 2])?,
+        &answer(alloc, 8, &[1, 1, 2])?,
     )?;
-    let above = judged_at_sides(
-        rt,
-        two.above,
-        Way::Above,
-        answer(5, 3, 1, 1),
-        answer(9, 1, 1, 1),
-        answer(8, 0, 0, 0),
-    )?;
-    two.usual = usual;
-    two.above = above;
-    let last = judged(rt, two, seven(), answer(1, 1, 1, 1), answer(1, 1, 1, 1))?;
-    print_tally(rt, last)
+    let usual = [
+        answer(alloc, 5, &[1, 1, 1])?,
+        answer(alloc, 7, &[3, 1, 1])?,
+        Answer::none(Side::Number(6)),
+    ];
+    judge_at_sides(rt, &mut tally, Way::Usual, usual)?;
+    let above = [
+        answer(alloc, 5, &[3, 1, 1])?,
+        answer(alloc, 9, &[1, 1, 1])?,
+        Answer::none(Side::Number(8)),
+    ];
+    judge_at_sides(rt, &mut tally, Way::Above, above)?;
+    let of_seven = answer(alloc, 1, &[1, 1, 1, 0, 0, 0, 0])?;
+    judge(rt, &mut tally, &SEVEN, &of_seven, &of_seven)?;
+    print!(rt; "{tally}")
 }

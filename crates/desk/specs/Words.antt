@@ -1,15 +1,7 @@
 -- A word behind a program's name: its bytes.
 -- Assumes nothing.
-use Rattle.std.specs.Prelude.{◌≡◌, List, ℕ, ◌≤◌, length, take}
+use Rattle.std.specs.Prelude.{List, ℕ, take}
 use Rattle.desk.specs.declared.Word.{Word}
-
--- So many bytes stand at the front of these, and that part has as many.
-abbrev pub IsPrefixLen : ℕ → List ℕ → Type 0
-IsPrefixLen n xs = (n ≤ length xs) × (n ≡ length (take n xs))
-
--- Its length counts bytes that stand there.
-abbrev pub Counted : Word → Type 0
-Counted word = IsPrefixLen word.len word.bytes
 
 abbrev pub bytes_in : Word → List ℕ
 bytes_in word = take word.len word.bytes

@@ -1,6 +1,7 @@
 -- Document 02, L3, asked with any numbers: what is refused, and what the call hands back.
 -- Assumes nothing.
-use Rattle.std.specs.Prelude.{Bool, not, ◌&&◌, ◌||◌, List, [], ◌∷◌, ℕ, leb}
+use Rattle.std.specs.Prelude.{Bool, not, ◌&&◌, ◌||◌, List, [], ◌∷◌, ℕ, leb, Ok, Err}
+use Rattle.std.specs.Prelude as rattle
 use Rattle.std.proofs.Math.Option.{Option, none, some}
 use Rattle.placing.specs.declared.units.Growth.{Growth}
 use Rattle.placing.specs.declared.units.Place.{Place}
@@ -9,10 +10,9 @@ use Rattle.placing.specs.rules.Corner.{Corner}
 use Rattle.placing.specs.rules.Growth.{Grows, growth_number}
 use Rattle.placing.specs.deciding.Growth.{growth_of}
 use Rattle.placing.specs.deciding.Tests.{corner_test}
+use Rattle.plan.specs.declared.refusal.Refusal.{Refusal}
 use Rattle.plan.specs.declared.refusal.Refusal.TheVariants.{BadNumber}
 use Rattle.plan.specs.rules.Refusal.{number_of, Test, ◌gives◌, Result, accepted, refused, after_tests}
-use Rattle.growth.specs.declared.AskedGrowth.{AskedGrowth}
-use Rattle.growth.specs.declared.AskedGrowth.TheVariants.{GrowthIs, NoGrowth}
 
 -- ---- what is refused
 
@@ -28,22 +28,27 @@ no_label s c = outside_range s || not (corner_test c)
 abbrev pub growth_tests : Place → ℕ → Place → ℕ → List Test
 growth_tests s c t e = no_label s c gives BadNumber ∷ no_label t e gives BadNumber ∷ []
 
--- ---- the answer as an enum: for each case its number, 0 where the call is accepted, and the value that it carries
+-- ---- the answer: how far the labels grow, or why the call is refused
+
+abbrev pub AskedGrowth : Type 0
+AskedGrowth = rattle.Result Growth Refusal
+
+-- ---- for each case its number, 0 where the call is accepted, and the value that it carries
 
 abbrev pub growth_asked_number : AskedGrowth → ℕ
-growth_asked_number (GrowthIs growth) = 0
-growth_asked_number (NoGrowth why) = number_of why
+growth_asked_number (Ok growth) = 0
+growth_asked_number (Err why) = number_of why
 
 -- A number of half units, or never.
 abbrev pub growth_carried : AskedGrowth → Option (Option ℕ)
-growth_carried (GrowthIs growth) = some (growth_number growth)
-growth_carried (NoGrowth why) = none
+growth_carried (Ok growth) = some (growth_number growth)
+growth_carried (Err why) = none
 
 -- ---- what the call hands back
 
 abbrev pub growth_answer : Result Growth → AskedGrowth
-growth_answer (accepted growth) = GrowthIs growth
-growth_answer (refused why) = NoGrowth why
+growth_answer (accepted growth) = Ok growth
+growth_answer (refused why) = Err why
 
 abbrev pub growth_asked : Place → ℕ → Place → ℕ → AskedGrowth
 growth_asked s c t e = growth_answer (after_tests (growth_tests s c t e) (growth_of s c t e))
@@ -57,5 +62,5 @@ pub record HasLabel (s : Place) (c : ℕ) : Type 0 where
 
 -- How far the two labels grow, as the rule has it; or the refusal, where one of them cannot be asked about.
 pub data GrowthTold (s : Place) (c : ℕ) (t : Place) (e : ℕ) : AskedGrowth → Type 0 where
-  told : {growth : Growth} → HasLabel s c → HasLabel t e → Grows s c t e growth → GrowthTold s c t e (GrowthIs growth)
-  told_3 : (HasLabel s c → HasLabel t e → ⊥) → GrowthTold s c t e (NoGrowth BadNumber)
+  told : {growth : Growth} → HasLabel s c → HasLabel t e → Grows s c t e growth → GrowthTold s c t e (Ok growth)
+  told_3 : (HasLabel s c → HasLabel t e → ⊥) → GrowthTold s c t e (Err BadNumber)

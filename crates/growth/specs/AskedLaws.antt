@@ -1,10 +1,8 @@
 -- Laws of `Asked`: the answer by the tests, what it tells, and that this is told in one way.
 -- Assumes nothing.
-use Rattle.std.specs.Prelude.{◌≡◌, refl, Bool, true, false, not, ◌||◌, List, [], ◌∷◌, ℕ, ◌≤◌, ◌<◌, leb, ltb}
-use Rattle.std.proofs.Common.{sym, ap, arith, le-leb, le-ltb, lt-ltb}
+use Rattle.std.specs.Prelude.{◌≡◌, refl, Bool, true, false, not, ◌||◌, List, [], ◌∷◌, ℕ, ◌≤◌, Ok, Err}
+use Rattle.std.proofs.Common.{sym, ap}
 use Rattle.std.proofs.Math.Option.{none, some}
-use Rattle.std.proofs.Math.Decide.{dec_le}
-use Rattle.std.proofs.lemmas.Bool.{lt-leb}
 use Rattle.placing.specs.declared.units.Growth.{Growth}
 use Rattle.placing.specs.declared.units.Growth.TheVariants.{Never}
 use Rattle.placing.specs.declared.units.Place.{Place}
@@ -21,9 +19,8 @@ use Rattle.plan.specs.declared.refusal.Refusal.TheVariants.{BadNumber}
 use Rattle.plan.specs.rules.Refusal.{number_of, Test, ◌gives◌, number_by, after_tests}
 use Rattle.plan.specs.rules.List.{place_at}
 use Rattle.plan.specs.calls.Answers.{carried_at}
-use Rattle.growth.specs.declared.AskedGrowth.{AskedGrowth}
-use Rattle.growth.specs.declared.AskedGrowth.TheVariants.{GrowthIs, NoGrowth}
 use Rattle.growth.specs.Asked.{
+  AskedGrowth,
   no_label,
   growth_tests,
   growth_asked_number,
@@ -35,14 +32,6 @@ use Rattle.growth.specs.Asked.{
   told,
   told_3,
 }
-
--- A number is above a bound where it is not up to it.
-pub above-not : (most n : ℕ) → ltb most n ≡ not (leb n most)
-above-not most n = go (dec_le n most)
-  where
-    go : Dec (n ≤ most) → ltb most n ≡ not (leb n most)
-    go (yes within) = rw (le-leb n most within, le-ltb most n within)
-    go (no above) = let more : most < n = omega arith in rw (lt-leb n most more, lt-ltb most n more)
 
 -- The tests decide whether there is a label to be asked about.
 pub label-decides : (s : Place) (c : ℕ) → Decides (not (no_label s c)) (HasLabel s c)
@@ -65,13 +54,13 @@ module _ (s : Place) (c : ℕ) (t : Place) (e : ℕ) where
   tested first second = first gives BadNumber ∷ second gives BadNumber ∷ []
 
   -- The answer, by the two tests.
-  pub first-refused : no_label s c ≡ true → growth_asked s c t e ≡ NoGrowth BadNumber
+  pub first-refused : no_label s c ≡ true → growth_asked s c t e ≡ Err BadNumber
   first-refused is = rw is
 
-  pub second-refused : no_label s c ≡ false → no_label t e ≡ true → growth_asked s c t e ≡ NoGrowth BadNumber
+  pub second-refused : no_label s c ≡ false → no_label t e ≡ true → growth_asked s c t e ≡ Err BadNumber
   second-refused passed is = rw (passed, is)
 
-  pub growth-given : no_label s c ≡ false → no_label t e ≡ false → growth_asked s c t e ≡ GrowthIs (growth_of s c t e)
+  pub growth-given : no_label s c ≡ false → no_label t e ≡ false → growth_asked s c t e ≡ Ok (growth_of s c t e)
   growth-given passed also = rw (passed, also)
 
   -- What is handed back tells what the contract says,
@@ -114,23 +103,23 @@ range-label has = (has.on_plan.on_x, (has.on_plan.on_y, (has.corner.least, has.c
 
 -- It is told in one way.
 pub told-one : {s : Place} {c : ℕ} {t : Place} {e : ℕ} {r other : AskedGrowth} → GrowthTold s c t e r → GrowthTold s c t e other → r ≡ other
-told-one (told own beside grows) (told own' beside' grows') = ap GrowthIs (grows_one grows grows')
+told-one (told own beside grows) (told own' beside' grows') = ap Ok (grows_one grows grows')
 told-one (told own beside grows) (told_3 refused) = absurd (refused own beside)
 told-one (told_3 refused) (told own beside grows) = absurd (refused own beside)
 told-one (told_3 refused) (told_3 refused') = refl
 
 -- The law for fractions too: where a growth is told, the labels meet at p/q exactly when it is a number g and p > g × q.
-pub told-meets : {s : Place} {c : ℕ} {t : Place} {e : ℕ} {growth : Growth} → GrowthTold s c t e (GrowthIs growth) → (p q : ℕ)
+pub told-meets : {s : Place} {c : ℕ} {t : Place} {e : ℕ} {growth : Growth} → GrowthTold s c t e (Ok growth) → (p q : ℕ)
     → (Meet p q s c t e → Exceeds p q growth) × (Exceeds p q growth → Meet p q s c t e)
 told-meets (told own beside grows) = meet-beyond grows
 
 -- A refusal is 3, and is given only where a place is outside the range or a corner is not 1 to 4.
-pub told-refused : {s : Place} {c : ℕ} {t : Place} {e : ℕ} {why : Refusal} → GrowthTold s c t e (NoGrowth why)
+pub told-refused : {s : Place} {c : ℕ} {t : Place} {e : ℕ} {why : Refusal} → GrowthTold s c t e (Err why)
     → (number_of why ≡ 3) × (HasLabel s c → HasLabel t e → ⊥)
 told-refused (told_3 refused) = (refl, refused)
 
 -- "One place given twice gives 0", at whatever corners.
-pub twice-0 : {s : Place} {c e : ℕ} {r : AskedGrowth} → HasLabel s c → HasLabel s e → GrowthTold s c s e r → r ≡ GrowthIs (up_to 0)
+pub twice-0 : {s : Place} {c e : ℕ} {r : AskedGrowth} → HasLabel s c → HasLabel s e → GrowthTold s c s e r → r ≡ Ok (up_to 0)
 twice-0 {s} {c} {e} own beside tells = told-one tells (told own beside (rw (sym (same_place s c e)) (grows-to s c s e)))
 
 -- Whichever label is named first.
@@ -142,6 +131,6 @@ asked-symmetric s c t e = told-one (asked-tells s c t e) (turned (asked-tells t 
     turned (told_3 refused) = told_3 (λ has has_other. refused has_other has)
 
 -- An answer carries its number, or never, and a refusal nothing.
-pub growth-values : ((g : ℕ) → growth_carried (GrowthIs (up_to g)) ≡ some (some g))
-    × ((growth_carried (GrowthIs Never) ≡ some none) × ((why : Refusal) → growth_carried (NoGrowth why) ≡ none))
+pub growth-values : ((g : ℕ) → growth_carried (Ok (up_to g)) ≡ some (some g))
+    × ((growth_carried (Ok Never) ≡ some none) × ((why : Refusal) → growth_carried (Err why) ≡ none))
 growth-values = (λ g. refl, (refl, λ why. refl))

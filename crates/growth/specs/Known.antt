@@ -1,14 +1,12 @@
 -- The known answers of L3, and of what it refuses, as rows of one table with a theorem over the rows.
 -- Assumes nothing.
-use Rattle.std.specs.Prelude.{◌≡◌, refl, List, [], ◌∷◌, ℕ, length}
+use Rattle.std.specs.Prelude.{◌≡◌, refl, List, [], ◌∷◌, ℕ, length, Ok, Err}
 use Rattle.placing.specs.declared.units.Growth.TheVariants.{Never}
 use Rattle.placing.specs.declared.units.Place.{Place}
 use Rattle.placing.specs.deciding.Growth.{up_to}
 use Rattle.plan.specs.declared.refusal.Refusal.TheVariants.{BadNumber}
 use Rattle.plan.specs.rules.List.{place_at}
-use Rattle.growth.specs.declared.AskedGrowth.{AskedGrowth}
-use Rattle.growth.specs.declared.AskedGrowth.TheVariants.{GrowthIs, NoGrowth}
-use Rattle.growth.specs.Asked.{growth_asked}
+use Rattle.growth.specs.Asked.{AskedGrowth, growth_asked}
 
 -- Two labels, each with its place and its corner, and what is told of them.
 pub record LabelAt : Type 0 where
@@ -28,13 +26,13 @@ abbrev ◌with◌tells◌ : LabelAt → LabelAt → AskedGrowth → Row
 ◌with◌tells◌ own other growth = record { own = own; other = other; growth = growth }
 
 abbrev up_to_side : ℕ → AskedGrowth
-up_to_side g = GrowthIs (up_to g)
+up_to_side g = Ok (up_to g)
 
 abbrev never : AskedGrowth
-never = GrowthIs Never
+never = Ok Never
 
 abbrev refused_with3 : AskedGrowth
-refused_with3 = NoGrowth BadNumber
+refused_with3 = Err BadNumber
 
 abbrev pub rows : List Row
 rows =

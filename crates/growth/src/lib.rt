@@ -12,48 +12,29 @@ use placing::geometry::growth_of;
 use placing::units::{Growth, Limits, Place};
 use plan::refusal::Refusal;
 
-// What comes of asking how far two labels grow.
-#[derive(Clone, Copy)]
-pub enum AskedGrowth {
-    GrowthIs(Growth),
-    NoGrowth(Refusal),
-}
-
 // The place is outside the range.
 fn outside_range(s: Place) -> bool
     ensures { result ≡ outside_range s }
 {
-    if s.x.0 > Limits::COORDINATE {
-        return true;
-    }
-    s.y.0 > Limits::COORDINATE
+    s.x.0 > Limits::COORDINATE || s.y.0 > Limits::COORDINATE
 }
 
 // There is no label at corner `c` of `s` to be asked about: the place is outside the range, or the corner is not 1 to 4.
 fn no_label(s: Place, c: u32) -> bool
     ensures { result ≡ no_label s c }
 {
-    if outside_range(s) {
-        return true;
-    }
-    if c < 1 {
-        return true;
-    }
-    c > Limits::CORNERS as u32
+    outside_range(s) || c < 1 || c > Limits::CORNERS as u32
 }
 
 // How far the labels at corner `c` of `s` and at corner `e` of `t` grow: test 3.
-pub fn how_far(s: Place, c: u32, t: Place, e: u32) -> AskedGrowth
+pub fn how_far(s: Place, c: u32, t: Place, e: u32) -> Result<Growth, Refusal>
     ensures answer { result ≡ growth_asked s c t e }
     ensures number { growth_asked_number result ≡ number_by (growth_tests s c t e) }
     ensures told { GrowthTold s c t e result }
     ensures value { growth_carried result ≡ carried_at (number_by (growth_tests s c t e)) (growth_number (growth_of s c t e)) }
 {
-    if no_label(s, c) {
-        return AskedGrowth::NoGrowth(Refusal::BadNumber);
+    if no_label(s, c) || no_label(t, e) {
+        return Err(Refusal::BadNumber);
     }
-    if no_label(t, e) {
-        return AskedGrowth::NoGrowth(Refusal::BadNumber);
-    }
-    AskedGrowth::GrowthIs(growth_of(s, c as u8, t, e as u8))
+    Ok(growth_of(s, c as u8, t, e as u8))
 }

@@ -5,32 +5,16 @@ use plan::name::Name;
 
 // The limit of this name, 0 where it is none.
 pub fn limit(name: &[u8]) -> u64 {
-    if check::same(name, b"sites") {
-        return Limits::SITES as u64;
+    match name {
+        b"sites" => Limits::SITES as u64,
+        b"coordinate" => u64::from(Limits::COORDINATE),
+        b"least side" => u64::from(Limits::LEAST_SIDE),
+        b"greatest side" => u64::from(Limits::GREATEST_SIDE),
+        b"free side" => u64::from(Limits::FREE_SIDE),
+        b"name" => Name::LONGEST as u64,
+        b"line" => TextLimits::LINE as u64,
+        b"list" => TextLimits::TEXT as u64,
+        b"sheet" => TextLimits::SHEET as u64,
+        _ => 0,
     }
-    if check::same(name, b"coordinate") {
-        return Limits::COORDINATE as u64;
-    }
-    if check::same(name, b"least side") {
-        return Limits::LEAST_SIDE as u64;
-    }
-    if check::same(name, b"greatest side") {
-        return Limits::GREATEST_SIDE as u64;
-    }
-    if check::same(name, b"free side") {
-        return Limits::FREE_SIDE as u64;
-    }
-    if check::same(name, b"name") {
-        return Name::LONGEST as u64;
-    }
-    if check::same(name, b"line") {
-        return TextLimits::LINE as u64;
-    }
-    if check::same(name, b"list") {
-        return TextLimits::TEXT as u64;
-    }
-    if check::same(name, b"sheet") {
-        return TextLimits::SHEET as u64;
-    }
-    0
 }

@@ -3,141 +3,169 @@
 // size, `choose-number` the side as a number, in range or not. The text of `output-at` has the word of a side and a space in front.
 // These, and `output`, are asked by the usual way of placing, and above where the word `above` stands in front of the call. Anywhere
 // else, or in front of another call, that word makes the call an unknown one.
-use crate::words::{are_numbers, first, from, number_in, unquoted};
+use crate::quoted::unquoted;
+use crate::sites::lines;
+use placing::units::{HalfUnits, Side};
 use placing::way::Way;
+use plan::number::side_from;
+use std::alloc::{AllocError, Global};
 
-#[derive(Clone, Copy)]
-pub enum Call {
-    Enter,
-    Read,
-    Find,
-    Choose,
-    ChooseNumber,
-    Place,
+#[derive(Drop)]
+pub enum Question {
+    Enter { name: Vec<u8>, x: u64, y: u64 },
+    Read { text: Vec<u8> },
+    Find { way: Way, table: usize },
+    Choose { way: Way, side: Side, table: usize },
+    Place { way: Way, table: usize },
     Side,
-    Corner,
+    Corner { site: usize },
     Count,
-    Write,
-    Output,
-    OutputAt,
+    Write { buffer: usize },
+    Output { way: Way, text: Vec<u8> },
+    OutputAt { way: Way, side: Side, text: Vec<u8> },
     Lent,
-    Limit,
+    Limit { name: Vec<u8> },
     Names,
-    Unknown,
 }
 
-// The text stands in an array beside it.
+// A question taken apart: the word of the call, the text between quotes where there is one, and the numbers, 0 where there is none.
 #[derive(Clone, Copy)]
-pub struct Question {
-    pub way: Way,
-    pub call: Call,
-    pub len: usize,
-    pub a: u64,
-    pub b: u64,
+struct Words<'a> {
+    call: &'a str,
+    quoted: Option<&'a str>,
+    numbers: [u64; 2],
 }
 
-// The calls that take a way of placing.
-fn placing_call(word: &[u8]) -> Call {
-    if check::same(word, b"find") {
-        return Call::Find;
+// Up to two numbers, parted by spaces; none where another word is among them.
+fn numbers_in(text: &str) -> Option<[u64; 2]> {
+    let mut numbers = [0; 2];
+    for (i, word) in text.split_whitespace().enumerate() {
+        *numbers.get_mut(i)? = word.parse::<u64>().ok()?;
     }
-    if check::same(word, b"choose") {
-        return Call::Choose;
-    }
-    if check::same(word, b"choose-number") {
-        return Call::ChooseNumber;
-    }
-    if check::same(word, b"place") {
-        return Call::Place;
-    }
-    if check::same(word, b"output") {
-        return Call::Output;
-    }
-    if check::same(word, b"output-at") {
-        return Call::OutputAt;
-    }
-    Call::Unknown
+    Some(numbers)
 }
 
-fn call_of(word: &[u8]) -> Call {
-    if check::same(word, b"enter") {
-        return Call::Enter;
+impl Words<'_> {
+    fn split(question: &str) -> Option<Words<'_>> {
+        let (call, behind) = question.split_once(' ').unwrap_or((question, ""));
+        let (quoted, behind) = match behind.strip_prefix('"') {
+            Some(opened) => {
+                let (quoted, behind) = opened.split_once('"')?;
+                (Some(quoted), behind)
+            }
+            None => (None, behind),
+        };
+        let numbers = numbers_in(behind)?;
+        Some(Words {
+            call,
+            quoted,
+            numbers,
+        })
     }
-    if check::same(word, b"read") {
-        return Call::Read;
+
+    fn text(&self, alloc: Global) -> Result<Vec<u8>, AllocError> {
+        match self.quoted {
+            Some(quoted) => unquoted(alloc, quoted),
+            None => lines(alloc, self.numbers[0] as usize),
+        }
     }
-    if check::same(word, b"side") {
-        return Call::Side;
+
+    // The question, where the call takes a way of placing.
+    fn placing(&self, alloc: Global, way: Way) -> Result<Option<Question>, AllocError> {
+        let [a, b] = self.numbers;
+        Ok(Some(match self.call {
+            "find" => Question::Find {
+                way,
+                table: a as usize,
+            },
+            "choose" => Question::Choose {
+                way,
+                side: side_from(&self.text(alloc)?),
+                table: a as usize,
+            },
+            "choose-number" => Question::Choose {
+                way,
+                side: numbered(a),
+                table: b as usize,
+            },
+            "place" => Question::Place {
+                way,
+                table: a as usize,
+            },
+            "output" => Question::Output {
+                way,
+                text: self.text(alloc)?,
+            },
+            "output-at" => output_at(alloc, way, self.quoted.unwrap_or(""))?,
+            _ => return Ok(None),
+        }))
     }
-    if check::same(word, b"corner") {
-        return Call::Corner;
+
+    // The question, where the call takes no way.
+    fn other(&self, alloc: Global) -> Result<Option<Question>, AllocError> {
+        let [a, b] = self.numbers;
+        Ok(Some(match self.call {
+            "enter" => Question::Enter {
+                name: self.text(alloc)?,
+                x: a,
+                y: b,
+            },
+            "read" => Question::Read {
+                text: self.text(alloc)?,
+            },
+            "side" => Question::Side,
+            "corner" => Question::Corner { site: a as usize },
+            "count" => Question::Count,
+            "write" => Question::Write { buffer: a as usize },
+            "lent" => Question::Lent,
+            "limit" => Question::Limit {
+                name: self.text(alloc)?,
+            },
+            "names" => Question::Names,
+            _ => return Ok(None),
+        }))
     }
-    if check::same(word, b"count") {
-        return Call::Count;
-    }
-    if check::same(word, b"write") {
-        return Call::Write;
-    }
-    if check::same(word, b"lent") {
-        return Call::Lent;
-    }
-    if check::same(word, b"limit") {
-        return Call::Limit;
-    }
-    if check::same(word, b"names") {
-        return Call::Names;
-    }
-    placing_call(word)
 }
 
-// The call of a word by a way. Above there are only those that take a way.
-fn call_by(way: Way, word: &[u8]) -> Call {
-    match way {
-        Way::Usual => call_of(word),
-        Way::Above => placing_call(word),
-    }
+// A number as a side, in range or not.
+fn numbered(number: u64) -> Side {
+    Side::Number(HalfUnits(u32::try_from(number).unwrap_or(u32::MAX)))
 }
 
-// The call before these numbers, an unknown one where there is another word among them.
-fn call_before(call: Call, numbers: &[u8]) -> Call {
-    if are_numbers(numbers) {
-        return call;
-    }
-    Call::Unknown
-}
-
-// A question with its numbers, parted by a space.
-fn with_numbers(way: Way, call: Call, len: usize, numbers: &[u8]) -> Question {
-    let space = first(numbers, b' ');
-    Question {
+// The list stands behind the word of a side and a space.
+fn output_at(alloc: Global, way: Way, quoted: &str) -> Result<Question, AllocError> {
+    let (side, list) = quoted.split_once(' ').unwrap_or((quoted, ""));
+    Ok(Question::OutputAt {
         way,
-        call: call_before(call, numbers),
-        len,
-        a: number_in(numbers),
-        b: number_in(from(numbers, space + 1)),
-    }
+        side: side_from(side.as_bytes()),
+        text: unquoted(alloc, list)?,
+    })
 }
 
-// Takes a question by a way apart. Behind the call stands a text in quotes, which is put at the front of the array, or numbers, or
-// nothing, which is no text.
-fn question_by(way: Way, words: &[u8], text: &mut [u8]) -> Question {
-    let end = first(words, b' ');
-    let call = call_by(way, &words[..end]);
-    let rest = from(words, end + 1);
-    if first(rest, b'"') > 0 {
-        return with_numbers(way, call, number_in(rest) as usize, rest);
+impl Question {
+    // How many bytes the call is lent, where it takes a work table or a buffer.
+    pub fn lends(&self) -> Option<usize> {
+        match self {
+            Question::Find { table, .. }
+            | Question::Choose { table, .. }
+            | Question::Place { table, .. } => Some(*table),
+            Question::Write { buffer } => Some(*buffer),
+            _ => None,
+        }
     }
-    let quoted = from(rest, 1);
-    let close = first(quoted, b'"');
-    let len = unquoted(text, &quoted[..close]);
-    with_numbers(way, call, len, from(quoted, close + 2))
-}
 
-// Takes a question apart: the way first, by the word in front.
-pub fn question_in(words: &[u8], text: &mut [u8]) -> Question {
-    let end = first(words, b' ');
-    if check::same(&words[..end], b"above") {
-        return question_by(Way::Above, from(words, end + 1), text);
+    // The question of these words; none where no such call is asked.
+    pub fn parse(alloc: Global, question: &str) -> Result<Option<Question>, AllocError> {
+        let above = question.strip_prefix("above ");
+        let Some(words) = Words::split(above.unwrap_or(question)) else {
+            return Ok(None);
+        };
+        match above {
+            Some(_) => words.placing(alloc, Way::Above),
+            None => match words.placing(alloc, Way::Usual)? {
+                Some(question) => Ok(Some(question)),
+                None => words.other(alloc),
+            },
+        }
     }
-    question_by(Way::Usual, words, text)
 }

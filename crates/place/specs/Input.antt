@@ -1,27 +1,24 @@
 -- Reading the input: what an answer of a read means, and what reading leaves in the room. The contract of the trait Read says that a read
--- gives an error or how many bytes it brought, no more than there is room for. Its answer here is one number, -1 for an error; none are
--- the end of the input.
+-- gives an error or how many bytes it brought, no more than there is room for. None are the end of the input.
 -- Assumes nothing.
-use Rattle.std.specs.Prelude.{List, ◌≡◌, ℕ, zero, suc, ◌+◌, ◌-◌, ◌<◌, ◌≤◌, ℤ, pos, negsuc, Result, Ok, Err, length, take}
-use Rattle.place.specs.declared.answer.Reading.{Reading}
-use Rattle.place.specs.declared.answer.Step.{Step}
-use Rattle.place.specs.declared.answer.Step.TheVariants.{Got, Ended, Failed}
+use Rattle.std.specs.Prelude.{List, ◌≡◌, ℕ, zero, suc, ◌+◌, ◌-◌, ◌<◌, ◌≤◌, Result, Ok, Err, length, take}
 
--- What a call that is handed n bytes may answer: -1, or how many bytes it moved, at most n.
-abbrev pub Moved : ℕ → ℤ → Type 0
-Moved n (pos k) = k ≤ n
-Moved n (negsuc k) = k ≡ 0
+-- What one read did: it brought so many bytes, or found the end of the input, or failed.
+pub data Step : Type 0 where
+  Got : ℕ → Step
+  Ended : Step
+  Failed : Step
 
--- How many bytes a read brought, or -1 where it failed.
-abbrev pub read_answer : {E : Type 0} → Result ℕ E → ℤ
-read_answer (Ok n) = pos n
-read_answer (Err e) = negsuc 0
+-- How far reading came: how many bytes stand in the room, and what the last read did. Before the first read that is `Got 0`.
+pub record Reading : Type 0 where
+  pub at : ℕ
+  pub last : Step
 
--- Below zero the read failed, at zero the input has ended, and any other answer is that many bytes.
-abbrev pub step_of : ℤ → Step
-step_of (negsuc k) = Failed
-step_of (pos zero) = Ended
-step_of (pos (suc k)) = Got (suc k)
+-- With an error the read failed, with no bytes the input has ended, and any other answer is that many bytes.
+abbrev pub step_of : {E : Type 0} → Result ℕ E → Step
+step_of (Err e) = Failed
+step_of (Ok zero) = Ended
+step_of (Ok (suc n)) = Got (suc n)
 
 -- What is left after a step: nothing where the input ended or a read failed.
 abbrev pub left_after : Step → ℕ → ℕ
@@ -44,6 +41,10 @@ abbrev pub GotSome : Step → Type 0
 GotSome (Got n) = 0 < n
 GotSome Ended = Unit {0}
 GotSome Failed = Unit {0}
+
+-- How far reading came after a read from `from` on.
+abbrev pub after_read : {E : Type 0} → (from : ℕ) → Result ℕ E → Reading
+after_read from got = record { at = from + bytes_of (step_of got); last = step_of got }
 
 -- One read from `from` on: its bytes are counted and lie within the room, those before them stay, and there is one or more, or none
 -- will come.
@@ -70,3 +71,22 @@ abbrev pub Sound : Step → Type 0
 Sound (Got n) = Unit {0}
 Sound Ended = Unit {0}
 Sound Failed = ⊥
+
+-- Reading came to its end with so many bytes, and no read failed.
+pub record AllRead (start room : List ℕ) (n : ℕ) : Type 0 where
+  pub last : Step
+  pub reads : InputReads start (record { at = n; last = last }) room
+  pub finished : Finished (record { at = n; last = last }) room
+  pub sound : Sound last
+
+-- Reading came to a read that failed.
+pub record FailedRead (start room : List ℕ) : Type 0 where
+  pub reading : Reading
+  pub reads : InputReads start reading room
+  pub finished : Finished reading room
+  pub failed : reading.last ≡ Failed
+
+-- What came of reading, by the room before and afterwards: so many bytes, or an error.
+abbrev pub ReadTo : {E : Type 0} → (start : List ℕ) → Result ℕ E → (room : List ℕ) → Type 0
+ReadTo start (Ok n) room = AllRead start room n
+ReadTo start (Err e) room = FailedRead start room

@@ -1,12 +1,13 @@
 // Reading the list from standard input, and writing its answer. Nothing but `answer_input` is seen outside, so that no answer and no
 // reading can be made up elsewhere.
-ghost use Rattle.std.specs.Prelude.{◌≡◌, ◌≤◌, ◌<◌, ◌^◌, IfOk, length};
-ghost use Rattle.place.specs.Input.{Finished, ReadBehind, InputReads, bytes_of, read_answer, room_left, step_of};
+ghost use Rattle.std.specs.Prelude.{◌≡◌, ◌<◌, IfOk, IfSome, length, take, drop};
+ghost use Rattle.std.specs.Io.KnownBytes.{Consumes, IsAtEnd, ReadConsumes};
 ghost use Rattle.plan.specs.rules.List.{longest_text};
 ghost use Rattle.plan.specs.rules.Calls.{filled_with};
+ghost use Rattle.place.specs.Input.{ReadBehind, ReadTo, after_read};
 ghost use Rattle.place.specs.Reply.{output_by, Replied, Writable};
 
-use crate::asked::{At, How};
+use crate::asked::How;
 use crate::explain::tell_refused;
 use desk::tell;
 use plan::limits::TextLimits;
@@ -14,103 +15,37 @@ use plan::output::{output, output_at};
 use std::io;
 use std::io::{Read, Write};
 
-// What one read did: it brought so many bytes, or found the end of the input, or failed.
+// What came of a list: how many bytes were read, and how many its output has.
 #[derive(Clone, Copy)]
-enum Step {
-    Got(usize),
-    Ended,
-    Failed,
+struct Answer {
+    read: usize,
+    written: usize,
 }
 
-// How far reading came: how many bytes stand in the room, and what the last read did. Before the first read that is `Got(0)`.
-#[derive(Clone, Copy)]
-struct Reading {
-    at: usize,
-    last: Step,
-}
-
-// What came of reading the input: an output of so many bytes, or none, since a read failed.
-#[derive(Clone, Copy)]
-enum Answer {
-    Output(Reading, usize),
-    Unread(Reading),
-}
-
-// What a read answers: how many bytes it brought, or -1 where it failed. A slice has less than 2⁶³ bytes.
-fn read_answer(got: io::Result<usize>) -> isize
-    requires { IfOk got (λ n. n < 2 ^ 63) }
-    ensures { result ≡ read_answer got }
-{
-    match got {
-        Ok(n) => n as isize,
-        Err(_) => -1,
-    }
-}
-
-// What an answer of `read` means.
-fn step_of(got: isize) -> Step
-    ensures { result ≡ step_of got }
-{
-    if got < 0 {
-        return Step::Failed;
-    }
-    let n = got as usize;
-    if n == 0 {
-        return Step::Ended;
-    }
-    Step::Got(n)
-}
-
-// How many bytes a step brought.
-fn bytes_of(step: Step) -> usize
-    ensures { result ≡ bytes_of step }
-{
-    match step {
-        Step::Got(n) => n,
-        Step::Ended => 0,
-        Step::Failed => 0,
-    }
-}
-
-// How many bytes the next read may bring: none after the end of the input or a failed read.
-fn room_left(reading: Reading, room: &[u8]) -> usize
-    requires { reading.at ≤ length room.now }
-    ensures { result ≡ room_left reading room.now }
-{
-    let last = reading.last;
-    match last {
-        Step::Got(_) => room.len() - reading.at,
-        Step::Ended => 0,
-        Step::Failed => 0,
-    }
-}
-
-// One read into what is left of the room.
-fn read_once<R: Read>(input: &mut R, text: &mut [u8], at: usize) -> Reading
+// One read into what is left of the room: how many bytes it brought, and none where the input has ended.
+fn read_once<R: Read>(input: &mut R, text: &mut [u8], at: usize) -> io::Result<usize>
     requires { at < length text.old }
-    ensures { ReadBehind at text.old result text.new }
+    ensures behind { ReadBehind at text.old (after_read at result) text.new }
+    ensures bytes { ReadConsumes (R.remaining input.old) (R.remaining input.new) result (drop at text.new) }
 {
-    let got = read_answer(input.read(&mut text[at..]));
-    let step = step_of(got);
-    Reading {
-        at: at + bytes_of(step),
-        last: step,
-    }
+    input.read(&mut text[at..])
 }
 
-// Reads until the input ends, a read fails or the room is full, however the bytes arrive.
-fn read_input<R: Read>(input: &mut R, text: &mut [u8]) -> Reading
-    ensures reads { InputReads text.old result text.new }
-    ensures finished { Finished result text.new }
+// Reads until the input ends or the room is full, however the bytes arrive, and gives how many came.
+fn read_input<R: Read>(input: &mut R, text: &mut [u8]) -> io::Result<usize>
+    ensures reads { ReadTo text.old result text.new }
+    ensures bytes { IfOk result (λ n. Consumes (R.remaining input.old) (R.remaining input.new) (take n text.new)) }
+    ensures end { IfOk result (λ n. n < length text.new → IsAtEnd (R.remaining input.new)) }
 {
-    let mut reading = Reading {
-        at: 0,
-        last: Step::Got(0),
-    };
-    while 0 < room_left(reading, text) {
-        reading = read_once(input, text, reading.at);
+    let mut at = 0;
+    while at < text.len() {
+        let n = read_once(input, text, at)?;
+        if n == 0 {
+            return Ok(at);
+        }
+        at += n;
     }
-    reading
+    Ok(at)
 }
 
 // The output for a list, by the way and at the side asked for.
@@ -118,11 +53,9 @@ fn put_output(text: &[u8], how: How, buffer: &mut [u8; TextLimits::SHEET]) -> us
     ensures length { result ≡ length (output_by how.way how.at text.now) }
     ensures buffer { buffer.new ≡ filled_with (output_by how.way how.at text.now) buffer.old }
 {
-    let way = how.way;
-    let at = how.at;
-    match at {
-        At::Found => output(text, way, buffer),
-        At::Given(side) => output_at(text, way, side, buffer),
+    match how.at {
+        None => output(text, how.way, buffer),
+        Some(side) => output_at(text, how.way, side, buffer),
     }
 }
 
@@ -133,42 +66,27 @@ fn reply<R: Read>(
     text: &mut [u8],
     how: How,
     buffer: &mut [u8; TextLimits::SHEET],
-) -> Answer
+) -> io::Result<Answer>
     requires { length text.old ≡ longest_text }
-    ensures { Replied how.way how.at text.old text.new result buffer.new }
+    ensures replied { Replied how.way how.at text.old text.new result buffer.new }
+    ensures known { IfOk result (λ answer. IfSome (R.remaining input.old) (λ list. take answer.written buffer.new ≡ output_by how.way how.at list)) }
 {
-    let reading = read_input(input, text);
-    let last = reading.last;
-    if let Step::Failed = last {
-        return Answer::Unread(reading);
-    }
-    let n = reading.at;
-    Answer::Output(reading, put_output(&text[..n], how, buffer))
+    let read = read_input(input, text)?;
+    let written = put_output(&text[..read], how, buffer);
+    Ok(Answer { read, written })
 }
 
-// Writes the answer: the output, and why the list is refused where it is; or what cannot be read or written.
-fn write_answer<W: Write, E: Write>(
-    out: &mut W,
-    err: &mut E,
-    answer: Answer,
-    text: &[u8],
-    how: How,
-    buffer: [u8; TextLimits::SHEET],
-)
-    requires { Writable how.way how.at answer text.now buffer }
+// Writes the output for a list, and why the list is refused where it is; or that it cannot be written.
+fn write_answer<W: Write, E: Write>(out: &mut W, err: &mut E, list: &[u8], how: How, output: &[u8])
+    requires { Writable how.way how.at list.now output.now }
 {
-    let Answer::Output(reading, n) = answer else {
-        tell(err, b"place: standard input cannot be read\n");
-        return;
-    };
-    if out.write_all(&buffer[..n]).is_err() {
-        tell(err, b"place: standard output cannot be written\n");
+    if out.write_all(output).is_err() {
+        tell(err, "place: standard output cannot be written\n");
         return;
     }
     // A refusal starts with the word refused, a sheet with the word side.
-    if buffer[0] == b'r' {
-        let end = reading.at;
-        tell_refused(err, &text[..end], how);
+    if output.starts_with(b"r") {
+        tell_refused(err, list, how);
     }
 }
 
@@ -176,13 +94,15 @@ fn write_answer<W: Write, E: Write>(
 pub(crate) fn answer_input(rt: HostRuntime, how: How) {
     let mut text = [0u8; TextLimits::TEXT];
     let mut buffer = [0u8; TextLimits::SHEET];
-    let answer = reply(&mut rt.stdin(), &mut text, how, &mut buffer);
+    let Ok(answer) = reply(&mut rt.stdin(), &mut text, how, &mut buffer) else {
+        tell(&mut rt.stderr(), "place: standard input cannot be read\n");
+        return;
+    };
     write_answer(
         &mut rt.stdout(),
         &mut rt.stderr(),
-        answer,
-        &text,
+        &text[..answer.read],
         how,
-        buffer,
+        &buffer[..answer.written],
     );
 }

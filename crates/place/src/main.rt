@@ -8,11 +8,11 @@ mod explain;
 mod usage;
 
 use crate::answer::answer_input;
-use crate::asked::{Task, asked};
+use crate::asked::asked;
 use crate::usage::tell_usage;
 
 fn main(rt: HostRuntime) {
-    let Task::Place(how) = asked(&rt) else {
+    let Some(how) = asked(&rt) else {
         tell_usage(&mut rt.stderr());
         return;
     };

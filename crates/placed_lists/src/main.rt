@@ -13,27 +13,27 @@ use placing::way::Way;
 use std::io;
 
 fn main(rt: HostRuntime) -> io::Result<()> {
-    print_placed(&rt, line(5, 5, 0, 0, 1), 1, Way::Usual)?;
-    print_placed(&rt, line(0, 0, 1, 0, 2), 2, Way::Usual)?;
-    print_placed(&rt, grid(2, 4), 4, Way::Usual)?;
-    print_placed(&rt, line(0, 0, 1, 1, 4), 4, Way::Usual)?;
-    print_placed(&rt, line(0, 0, 1, 1, 5), 5, Way::Usual)?;
-    print_placed(&rt, column(), 3, Way::Usual)?;
-    print_placed(&rt, grid(3, 9), 9, Way::Usual)?;
-    print_placed(&rt, line(0, 0, 10_000, 10_000, 2), 2, Way::Usual)?;
-    print_placed(&rt, line(0, 0, 1, 0, 240), 240, Way::Usual)?;
-    print_placed(&rt, grid(15, 240), 240, Way::Usual)?;
-    print_chosen(&rt, column(), 3, Way::Usual, 4)?;
-    print_chosen(&rt, column(), 3, Way::Usual, 5)?;
-    print_chosen(&rt, line(0, 0, 1, 1, 5), 5, Way::Usual, 3)?;
-    print_chosen(&rt, column(), 3, Way::Usual, 7)?;
-    print_placed(&rt, grid(2, 4), 4, Way::Above)?;
-    print_placed(&rt, column(), 3, Way::Above)?;
-    print_placed(&rt, line(0, 0, 1, 1, 4), 4, Way::Above)?;
-    print_placed(&rt, grid(3, 9), 9, Way::Above)?;
-    print_placed(&rt, line(0, 0, 1, 0, 2), 2, Way::Above)?;
-    print_placed(&rt, row(), 3, Way::Above)?;
-    print_chosen(&rt, column(), 3, Way::Above, 8)?;
-    print_chosen(&rt, column(), 3, Way::Above, 9)?;
-    print_placed(&rt, line(5, 5, 0, 0, 2), 2, Way::Usual)
+    print_placed(&rt, &line::<1>(5, 5, 0, 0), Way::Usual)?;
+    print_placed(&rt, &line::<2>(0, 0, 1, 0), Way::Usual)?;
+    print_placed(&rt, &grid::<4>(2), Way::Usual)?;
+    print_placed(&rt, &line::<4>(0, 0, 1, 1), Way::Usual)?;
+    print_placed(&rt, &line::<5>(0, 0, 1, 1), Way::Usual)?;
+    print_placed(&rt, &column(), Way::Usual)?;
+    print_placed(&rt, &grid::<9>(3), Way::Usual)?;
+    print_placed(&rt, &line::<2>(0, 0, 10_000, 10_000), Way::Usual)?;
+    print_placed(&rt, &line::<240>(0, 0, 1, 0), Way::Usual)?;
+    print_placed(&rt, &grid::<240>(15), Way::Usual)?;
+    print_chosen(&rt, &column(), Way::Usual, 4)?;
+    print_chosen(&rt, &column(), Way::Usual, 5)?;
+    print_chosen(&rt, &line::<5>(0, 0, 1, 1), Way::Usual, 3)?;
+    print_chosen(&rt, &column(), Way::Usual, 7)?;
+    print_placed(&rt, &grid::<4>(2), Way::Above)?;
+    print_placed(&rt, &column(), Way::Above)?;
+    print_placed(&rt, &line::<4>(0, 0, 1, 1), Way::Above)?;
+    print_placed(&rt, &grid::<9>(3), Way::Above)?;
+    print_placed(&rt, &line::<2>(0, 0, 1, 0), Way::Above)?;
+    print_placed(&rt, &row(), Way::Above)?;
+    print_chosen(&rt, &column(), Way::Above, 8)?;
+    print_chosen(&rt, &column(), Way::Above, 9)?;
+    print_placed(&rt, &line::<2>(5, 5, 0, 0), Way::Usual)
 }

@@ -16,7 +16,7 @@ ghost use Rattle.plan.specs.Demands.{EnterTold, FindTold, ChooseTold, SideTold, 
 
 use crate::name::name_from;
 use crate::number::{coordinate_at, place_at};
-use crate::plan::{Plan, SiteRead};
+use crate::plan::{Placement, Plan, SiteRead};
 use crate::refusal::Refusal;
 use placing::place::{choose_corners, find_side};
 use placing::units::{Limits, Side};
@@ -54,9 +54,7 @@ pub fn is_side(side: Side) -> bool
 impl Plan {
     // Enters one site at the end: tests 2, 3, 7, 4, 5.
     pub fn enter(&mut self, name: &[u8], x: u64, y: u64) -> Result<(), Refusal>
-        requires { Valid self.old }
         ensures answer { record { outcome = result; plan = self.new } ≡ entered_in self.old name.now x y }
-        ensures valid { Valid self.new }
         ensures told { EnterTold self.old name.now x y (record { outcome = result; plan = self.new }) }
     {
         let place = place_at(coordinate_at(x), coordinate_at(y));
@@ -68,7 +66,6 @@ impl Plan {
 
     // Finds the greatest side of the plan's sites by a way: tests 8, 11.
     pub fn find(&self, way: Way, table: &mut [u8]) -> Result<Side, Refusal>
-        requires { Valid self.now }
         ensures answer { result ≡ found_in self.now way table.old }
         ensures table { table.new ≡ table_found self.now table.old }
         ensures told { FindTold self.now table.old result table.new }
@@ -82,10 +79,8 @@ impl Plan {
 
     // Chooses the first good choice by a way at a given side: tests 3, 8, 11, 12. The plan is then placed that way at that side.
     pub fn choose_at(&mut self, way: Way, side: Side, table: &mut [u8]) -> Result<(), Refusal>
-        requires { Valid self.old }
         ensures answer { record { outcome = result; plan = self.new } ≡ chosen_in self.old way side table.old }
         ensures table { table.new ≡ table_chosen self.old side table.old }
-        ensures valid { Valid self.new }
         ensures told { ChooseTold self.old way side table.old (record { outcome = result; plan = self.new }) table.new }
     {
         if !is_side(side) {
@@ -94,48 +89,39 @@ impl Plan {
         ready(self.count, table.len())?;
         let sites = &self.places[..self.count];
         let corners = choose_corners(sites, way, side, table).ok_or(Refusal::NoGoodChoice)?;
-        self.placed = true;
-        self.way = way;
-        self.side = side;
-        self.corners = corners;
+        self.placement = Some(Placement { way, side, corners });
         Ok(())
     }
 
     // The side that the plan is placed at: test 9.
     pub fn side(&self) -> Result<Side, Refusal>
-        requires { Valid self.now }
         ensures answer { result ≡ side_asked self.now }
         ensures told { SideTold self.now result }
         ensures value { side_carried result
             ≡ carried_at (number_by (side_tests self.now.placed)) (side_number (answer_for self.now).side) }
     {
-        if !self.placed {
-            return Err(Refusal::NotPlaced);
-        }
-        Ok(self.side)
+        let placement = self.placement.ok_or(Refusal::NotPlaced)?;
+        Ok(placement.side)
     }
 
     // The corner of site number `i`: tests 9, 6.
     pub fn corner(&self, i: usize) -> Result<u8, Refusal>
-        requires { Valid self.now }
         ensures answer { result ≡ corner_asked self.now i }
         ensures told { CornerTold self.now i result }
         ensures value { corner_carried result
             ≡ carried_at (number_by (corner_tests self.now.placed self.now.count i)) (corner_at (answer_for self.now).corners i) }
     {
-        if !self.placed {
-            return Err(Refusal::NotPlaced);
-        }
+        let placement = self.placement.ok_or(Refusal::NotPlaced)?;
         if i >= self.count {
             return Err(Refusal::NoSuchSite);
         }
-        Ok(self.corners[i])
+        Ok(placement.corners[i])
     }
 
     // How many sites the plan has.
     pub fn count(&self) -> usize
-        requires { Valid self.now }
-        ensures { result ≡ counted self.now }
+        ensures answer { result ≡ counted self.now }
+        ensures valid { Valid self.now }
     {
         self.count
     }

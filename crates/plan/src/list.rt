@@ -1,7 +1,6 @@
 // Reading a list: one site a line, name, x, y, parted by one tab each.
 ghost use Rattle.std.specs.Prelude.{◌≡◌, ◌≤◌, ◌<◌, length};
 ghost use Rattle.plan.specs.rules.Text.{fields_of};
-ghost use Rattle.plan.specs.calls.Plan.{Valid};
 ghost use Rattle.plan.specs.calls.Answers.{started, read_from};
 ghost use Rattle.plan.specs.Demands.{ReadTold, StopTold};
 ghost use Rattle.plan.specs.code.Line.{LineEnds, LineReads, LineEntered};
@@ -51,7 +50,7 @@ fn read_line(line: &[u8]) -> Option<SiteRead>
 impl Plan {
     // Enters the site of the line that starts at `at`, and gives the line's end: test 1, then those of entering.
     fn enter_line(&mut self, text: &[u8], at: usize) -> Result<usize, Refusal>
-        requires { Valid self.old × (at < length text.now) }
+        requires { at < length text.now }
         ensures { LineEntered text.now at self.old result self.new }
     {
         let end = line_end(text, at).ok_or(Refusal::BadLine)?;
@@ -67,7 +66,7 @@ impl Plan {
     {
         let mut at = 0;
         while at < text.len() {
-            let number = self.count + 1;
+            let number = self.count() + 1;
             match self.enter_line(text, at) {
                 Ok(end) => at = end + 1,
                 Err(why) => return Err(RefusedLine { number, at, why }),
@@ -79,7 +78,6 @@ impl Plan {
     // Reads a whole list, or refuses it at its first refused line; the plan is then empty.
     pub fn read(&mut self, text: &[u8]) -> Result<(), Refusal>
         ensures answer { record { outcome = result; plan = self.new } ≡ read_from text.now }
-        ensures valid { Valid self.new }
         ensures told { ReadTold text.now (record { outcome = result; plan = self.new }) }
     {
         *self = Plan::start();

@@ -46,7 +46,6 @@ impl Plan {
     // calls a work table of its own.
     pub fn place_list(&mut self, text: &[u8], way: Way) -> Result<(), Refusal>
         ensures answer { record { outcome = result; plan = self.new } ≡ list_placed way text.now }
-        ensures valid { Valid self.new }
         ensures told { ListTold way text.now (record { outcome = result; plan = self.new }) }
     {
         self.read(text)?;
@@ -58,7 +57,6 @@ impl Plan {
     // Reads a list and places it by a way at a given side; where that is refused, the plan is empty.
     pub fn place_list_at(&mut self, text: &[u8], way: Way, side: Side) -> Result<(), Refusal>
         ensures answer { record { outcome = result; plan = self.new } ≡ list_placed_at way side text.now }
-        ensures valid { Valid self.new }
         ensures told { ListToldAt way side text.now (record { outcome = result; plan = self.new }) }
     {
         if !is_side(side) {

@@ -1,5 +1,5 @@
 // Writing the sheet of a placed plan, at the side that it is placed at.
-ghost use Rattle.std.specs.Prelude.{◌≡◌, true, ◌+◌, ◌≤◌, ◌<◌, length};
+ghost use Rattle.std.specs.Prelude.{◌≡◌, true, ◌+◌, ◌≤◌, length};
 ghost use Rattle.placing.specs.rules.Units.{OnPlan};
 ghost use Rattle.placing.specs.rules.Corner.{Corner};
 ghost use Rattle.plan.specs.rules.Refusal.{number_by};
@@ -10,7 +10,7 @@ ghost use Rattle.plan.specs.calls.Answers.{sheet_for, written_in, buffer_after, 
 ghost use Rattle.plan.specs.calls.Lengths.{longest_side_line, longest_site_line, longest_sheet};
 ghost use Rattle.plan.specs.code.Taken.{site_of};
 ghost use Rattle.plan.specs.code.Put.{Put};
-ghost use Rattle.plan.specs.code.SheetParts.{side_line_ended, site_line_ended, line_held, SideSmall};
+ghost use Rattle.plan.specs.code.SheetParts.{side_line_ended, site_line_ended, SideSmall};
 ghost use Rattle.plan.specs.Demands.{SheetWritten, WriteTold};
 
 use crate::limits::TextLimits;
@@ -49,29 +49,22 @@ fn put_site(out: &mut [u8], at: usize, name: Name, place: Place, corner: u8) -> 
 }
 
 impl Plan {
-    // The line of site number `i` of a placed plan.
-    fn put_line(&self, i: usize, out: &mut [u8], at: usize) -> usize
-        requires { Valid self.now × (self.now.placed ≡ true) × (i < self.now.count) × (at + longest_site_line ≤ length out.old) }
-        ensures { Put out.old at (line_held self.now i) result out.new }
-    {
-        put_site(out, at, self.names[i], self.places[i], self.corners[i])
-    }
-
     // The whole sheet of a placed plan, from the first byte on.
     pub(crate) fn compose(&self, out: &mut [u8]) -> usize
-        requires { Valid self.now × (self.now.placed ≡ true) × (longest_sheet ≤ length out.old) }
+        requires { (self.now.placed ≡ true) × (longest_sheet ≤ length out.old) }
         ensures { Put out.old 0 (sheet_for self.now) result out.new }
     {
-        let mut at = put_side(out, self.side);
+        let placement = self.placement.unwrap();
+        let mut at = put_side(out, placement.side);
+        // Three arrays are gone through side by side.
         for i in 0..self.count {
-            at = self.put_line(i, out, at);
+            at = put_site(out, at, self.names[i], self.places[i], placement.corners[i]);
         }
         at
     }
 
     // Writes the sheet into the buffer: tests 9, 10.
     pub fn write(&self, buffer: &mut [u8]) -> Result<usize, Refusal>
-        requires { Valid self.now }
         ensures answer { result ≡ written_in self.now buffer.old }
         ensures buffer { buffer.new ≡ buffer_after self.now buffer.old }
         ensures sheet { SheetWritten self.now.way (sites_in self.now) self.now.side result buffer.new }
@@ -79,7 +72,7 @@ impl Plan {
         ensures value { written_length result
             ≡ carried_at (number_by (write_tests self.now.placed (sheet_for self.now) buffer.old)) (length (sheet_for self.now)) }
     {
-        if !self.placed {
+        if self.placement.is_none() {
             return Err(Refusal::NotPlaced);
         }
         let mut sheet = [0u8; TextLimits::SHEET];

@@ -1,21 +1,23 @@
 -- The answers of the calls, test by test.
 -- Assumes nothing.
-use Rattle.std.specs.Prelude.{◌≡◌, refl, true, false, List, [], ◌∷◌, ℕ, ◌≤◌, ◌<◌, length, get_or, IsErrAnd, Ok, Err}
+use Rattle.std.specs.Prelude.{◌≡◌, refl, true, false, List, [], ◌∷◌, ℕ, ◌≤◌, ◌<◌, length, get_or, is_some, ok_or, IsErrAnd, Some, None, Ok, Err}
 use Rattle.std.specs.Prelude as rattle
 use Rattle.std.proofs.Common.{sym, ap, ◌∙◌, subst, arith}
 use Rattle.std.proofs.Math.Option.{Option, some, none}
 use borrow.Author.Tests.{le-leb, lt-leb}
 use Rattle.placing.specs.declared.units.Side.{Side}
 use Rattle.placing.specs.declared.way.Way.{Way}
+use Rattle.placing.specs.rules.Choice.{corner_at}
 use Rattle.placing.specs.rules.Answer.{is_side, side_number}
 use Rattle.placing.specs.deciding.Answer.{answer_of, chosen_at}
 use Rattle.placing.specs.theorems.Given.{chosen_is}
 use Rattle.plan.specs.declared.refusal.Refusal.{Refusal}
 use Rattle.plan.specs.declared.refusal.Refusal.TheVariants as why
+use Rattle.plan.specs.declared.plan.Placement.{Placement}
 use Rattle.plan.specs.declared.plan.Plan.{Plan}
 use Rattle.plan.specs.rules.Refusal.{first_refusal, number_by, Result, accepted, refused, unless}
 use Rattle.plan.specs.rules.List.{Site, places_of, Listed}
-use Rattle.plan.specs.rules.Calls.{finding_tests, choosing_tests, before_choice, no_good, cleared, bytes_after}
+use Rattle.plan.specs.rules.Calls.{corner_tests, finding_tests, choosing_tests, before_choice, no_good, cleared, bytes_after}
 use Rattle.plan.specs.deciding.Output.{exists_at}
 use Rattle.plan.specs.calls.Plan.{unplaced_plan, placed_with, sites_in, Valid, is_unplaced, is_placed}
 use Rattle.plan.specs.calls.Answers.{
@@ -30,13 +32,16 @@ use Rattle.plan.specs.calls.Answers.{
   side_asked,
   corner_asked,
   Outcome,
+  answer_for,
+  corner_carried,
   AskedSide,
+  AskedCorner,
   Planned,
 }
-use Rattle.plan.specs.Demands.{FindTold, ChooseTold}
+use Rattle.plan.specs.Demands.{FindTold, ChooseTold, CornerTold}
 use Rattle.plan.specs.theorems.Tables.{first-early, first-late}
 use Rattle.plan.specs.theorems.Plan.{valid-holding, valid-corner}
-use Rattle.plan.specs.theorems.Calls.{find-told, choose-told}
+use Rattle.plan.specs.theorems.Calls.{find-told, choose-told, corner-told}
 
 -- ---- answers
 
@@ -107,7 +112,7 @@ module _ (plan : Plan) (way : Way) (table : List ℕ) where
 -- What is promised of choosing.
 abbrev pub ChoosePromised : Plan → Way → Side → List ℕ → Planned → List ℕ → Type 0
 ChoosePromised plan way side table r left =
-    (r ≡ chosen_in plan way side table) × ((left ≡ table_chosen plan side table) × (Valid r.plan × ChooseTold plan way side table r left))
+    (r ≡ chosen_in plan way side table) × ((left ≡ table_chosen plan side table) × ChooseTold plan way side table r left)
 
 -- The refusal of the tests before 12: 3 where the side cannot be given, else that of finding.
 pub outside-first : (side : Side) (n bytes : ℕ) → is_side side ≡ false → first_refusal (before_choice side n bytes) ≡ some why.BadNumber
@@ -117,28 +122,26 @@ pub given-first : (side : Side) (n bytes : ℕ) {first : Option Refusal} → is_
     → first_refusal (before_choice side n bytes) ≡ first
 given-first side n bytes given is = rw given is
 
-module _ {plan : Plan} (valid : Valid plan) (way : Way) (side : Side) (table : List ℕ) where
+module _ (plan : Plan) (way : Way) (side : Side) (table : List ℕ) where
   -- All of it follows from the refusal of all tests, and from that of the tests before 12.
   choose-promised : {r : Planned} {left : List ℕ} (first early : Option Refusal)
       → first_refusal (choosing_tests side plan.count (length table) (exists_at way side (sites_in plan))) ≡ first
       → first_refusal (before_choice side plan.count (length table)) ≡ early
       → r ≡ handed (placed_with (sites_in plan) way) plan (unless first (chosen_at way side (places_of (sites_in plan))))
-      → left ≡ bytes_after (unless early side) (cleared plan.count table) table → Valid r.plan
-      → ChoosePromised plan way side table r left
-  choose-promised {r} {left} first early first-is early-is r-is left_is after-valid =
+      → left ≡ bytes_after (unless early side) (cleared plan.count table) table → ChoosePromised plan way side table r left
+  choose-promised {r} {left} first early first-is early-is r-is left_is =
       let answer = chosen_at way side (places_of (sites_in plan)) in
       let is : r ≡ chosen_in plan way side table
       = r-is ∙ ap (λ (f : Option Refusal). handed (placed_with (sites_in plan) way) plan (unless f answer)) (sym first-is) in
       let left_so : left ≡ table_chosen plan side table
       = left_is ∙ ap (λ (f : Option Refusal). bytes_after (unless f side) (cleared plan.count table) table) (sym early-is) in
-      (is, (left_so, (after-valid, choose-told plan way side table is left_so)))
+      (is, (left_so, choose-told plan way side table is left_so))
 
   -- Refused before 12, choosing changes nothing.
   pub choose-refuses : {r : Planned} {why : Refusal} → first_refusal (before_choice side plan.count (length table)) ≡ some why
       → r ≡ refusal-of plan why → ChoosePromised plan way side table r table
   choose-refuses {r} {why} early is =
       choose-promised (some why) (some why) (first-early (before_choice side plan.count (length table)) (no_good (exists_at way side (sites_in plan)) ∷ []) early) early is refl
-      (subst (λ (p : Planned). Valid p.plan) (sym is) valid)
 
   module _ (early : first_refusal (before_choice side plan.count (length table)) ≡ none) {r : Planned} {left : List ℕ}
       (left_is : left ≡ cleared plan.count table) where
@@ -148,20 +151,33 @@ module _ {plan : Plan} (valid : Valid plan) (way : Way) (side : Side) (table : L
     choose-none none_good is =
         choose-promised (some why.NoGoodChoice) none
         (first-late (before_choice side plan.count (length table)) (no_good (exists_at way side (sites_in plan)) ∷ []) early ∙ rw none_good) early is left_is
-        (subst (λ (p : Planned). Valid p.plan) (sym is) valid)
 
     -- Accepted, it hands back the plan placed at the side.
-    pub choose-accepts : exists_at way side (sites_in plan) ≡ true → is_side side ≡ true → 1 ≤ plan.count
+    pub choose-accepts : exists_at way side (sites_in plan) ≡ true
         → r ≡ record { outcome = Ok tt; plan = placed_with (sites_in plan) way (chosen_at way side (places_of (sites_in plan))) }
         → ChoosePromised plan way side table r left
-    choose-accepts there given some_sites is =
-        let holding = valid-holding valid in
+    choose-accepts there is =
         choose-promised none none
         (first-late (before_choice side plan.count (length table)) (no_good (exists_at way side (sites_in plan)) ∷ []) early ∙ rw there) early is left_is
-        (subst (λ (p : Planned). Valid p.plan) (sym is)
-        (is_placed (sites_in plan) way _ holding.listed (omega (arith, holding.count)) (chosen_is way (places_of (sites_in plan)) side given there)))
+
+-- That is a plan that the calls hand back.
+pub chosen-valid : {plan : Plan} → Valid plan → (way : Way) (side : Side) → is_side side ≡ true → exists_at way side (sites_in plan) ≡ true
+    → 1 ≤ plan.count → Valid (placed_with (sites_in plan) way (chosen_at way side (places_of (sites_in plan))))
+chosen-valid {plan} valid way side given there some_sites =
+    let holding = valid-holding valid in
+    is_placed (sites_in plan) way _ holding.listed (omega (arith, holding.count)) (chosen_is way (places_of (sites_in plan)) side given there)
 
 -- ---- asking: tests 9, 6
+
+-- Where a placement is asked for, it is there,
+pub placement-there : (at : rattle.Option Placement) (why : Refusal) {placement : Placement} → ok_or at why ≡ Ok placement → at ≡ Some placement
+placement-there (Some other) why {placement} is = let same : other ≡ placement = cc in ap Some same
+placement-there None why is = let z : ◌≡◌ {A = ℕ} 0 1 = cc in absurd (omega arith)
+
+-- or it is not.
+pub placement-none : (at : rattle.Option Placement) (why : Refusal) {other : Refusal} → ok_or at why ≡ Err other → (is_some at ≡ false) × (why ≡ other)
+placement-none (Some placement) why is = let z : ◌≡◌ {A = ℕ} 0 1 = cc in absurd (omega arith)
+placement-none None why {other} is = let same : why ≡ other = cc in (refl, same)
 
 -- A plan that is not placed has no side to tell;
 pub side-refused : (plan : Plan) → plan.placed ≡ false → Err why.NotPlaced ≡ side_asked plan
@@ -185,3 +201,14 @@ module _ (plan : Plan) (i : ℕ) where
   pub corner-given : Valid plan → plan.placed ≡ true → i < plan.count → Ok (get_or plan.corners i 0) ≡ corner_asked plan i
   unfolding sites_in
   corner-given valid is below = rw (is, lt-leb plan.count i below) (ap Ok (valid-corner valid is i below))
+
+-- What is promised of asking a corner of a plan, from those of its fields.
+abbrev pub CornerPromised : Plan → ℕ → AskedCorner → Type 0
+CornerPromised plan i r =
+    (r ≡ corner_asked plan i)
+    × (CornerTold plan i r
+    × (corner_carried r ≡ carried_at (number_by (corner_tests plan.placed plan.count i)) (corner_at (answer_for plan).corners i)))
+
+pub corner-promised : {plan before : Plan} (i : ℕ) {r : AskedCorner} → plan ≡ before → r ≡ corner_asked plan i → CornerPromised before i r
+corner-promised {plan} i {r} same is =
+    let told = corner-told plan i is in subst (λ (p : Plan). CornerPromised p i r) same (is, (told.0, told.1))

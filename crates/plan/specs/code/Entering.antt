@@ -1,6 +1,6 @@
 -- Entering a name and a place as they were read.
 -- Assumes nothing.
-use Rattle.std.specs.Prelude.{◌≡◌, refl, Bool, true, false, ◌&&◌, List, ℕ, ◌-◌, ◌≤◌, ◌<◌, leb, length, take, replicate, Option, Some, None, Ok, Err, unwrap_or}
+use Rattle.std.specs.Prelude.{◌≡◌, refl, Bool, true, false, ◌&&◌, List, [], ◌∷◌, ◌++◌, ℕ, ◌-◌, ◌≤◌, ◌<◌, leb, length, take, replicate, Option, Some, None, Ok, Err, unwrap_or}
 use Rattle.std.specs.Prelude as rattle
 use Rattle.std.specs.Option.{is_some}
 use Rattle.std.specs.List.{list_any}
@@ -17,13 +17,13 @@ use Rattle.plan.specs.declared.plan.SiteRead.{SiteRead}
 use Rattle.plan.specs.declared.plan.Plan.{Plan}
 use Rattle.plan.specs.declared.refusal.Refusal.{Refusal}
 use Rattle.plan.specs.declared.refusal.Refusal.TheVariants as why
-use Rattle.plan.specs.rules.Refusal.{Test, first_refusal, Result, refused, unless, after_tests}
+use Rattle.plan.specs.rules.Refusal.{Test, first_refusal, Result, accepted, refused, unless, after_tests}
 use Rattle.plan.specs.rules.Text.{most_name_bytes, is_name, or_zero}
-use Rattle.plan.specs.rules.List.{Site, place_at, name_taken, place_taken, ByRules, Wanted, enter_tests, with_site, entered, is_coordinate, wanted_of}
+use Rattle.plan.specs.rules.List.{Site, Listed, place_at, name_taken, place_taken, ByRules, Wanted, enter_tests, with_site, entered, is_coordinate, wanted_of}
 use Rattle.plan.specs.calls.Plan.{unplaced_plan, name_of, name_held, Valid}
 use Rattle.plan.specs.calls.Answers.{handed, Outcome, Planned}
 use Rattle.plan.specs.theorems.Plan.{Holding}
-use Rattle.plan.specs.theorems.Entering.{Passed, tests-passed, coordinate-fits}
+use Rattle.plan.specs.theorems.Entering.{Passed, tests-passed, passed-entered, passed-listed, coordinate-fits}
 use Rattle.plan.specs.code.NameRead.{Padded, no_name, name_read, name_where}
 use Rattle.plan.specs.calls.Given.{coordinate_read}
 use Rattle.plan.specs.code.Coordinate.{place_read}
@@ -136,7 +136,7 @@ module _ (sites : List Site) (read : SiteRead) where
       (result-refused (first_refusal (enter_tests sites (wanted_read read))) _ is)
 
   -- admitted, no test holds, and the name and the place are those that were read.
-  pub admitted-passes : {name : Name} {place : Place} → admitted sites read ≡ Ok (name, place)
+  admitted-passes : {name : Name} {place : Place} → admitted sites read ≡ Ok (name, place)
       → Passed sites (wanted_read read) × (name_of_read read ≡ name) × (place_of_read read ≡ place)
   admitted-passes is =
       let told = result-value (first_refusal (enter_tests sites (wanted_read read))) _ is in
@@ -156,15 +156,35 @@ read_placed None fits there = absurd (false≢true there)
 read_placed (Some place) fits there = fits
 
 -- A site that was read and passes is by the rules.
-pub site-padded : {read : SiteRead} → SiteFits read → Padded (name_of_read read)
+site-padded : {read : SiteRead} → SiteFits read → Padded (name_of_read read)
 site-padded {read} fits = read-padded read.name fits.name_fits
 
-pub read-rules : {sites : List Site} {read : SiteRead} → SiteFits read → Passed sites (wanted_read read) → ByRules (wanted_read read).site
+read-rules : {sites : List Site} {read : SiteRead} → SiteFits read → Passed sites (wanted_read read) → ByRules (wanted_read read).site
 read-rules {read = read} fits passed =
     record {
       named = read-named read.name fits.name_fits passed.given_name;
       on_plan = read_placed read.place fits.place_fits passed.is_inside;
     }
+
+-- A site that is admitted behind some sites.
+pub record Admitted (sites : List Site) (read : SiteRead) (name : Name) (place : Place) : Type 0 where
+  pub padded : Padded name
+  pub room : length sites < most_sites
+  pub listed : Listed sites → Listed (sites ++ (site_of name place ∷ []))
+  pub enters : entered sites (wanted_read read) ≡ accepted (sites ++ (site_of name place ∷ []))
+
+pub admitted-enters : (sites : List Site) (read : SiteRead) {name : Name} {place : Place} → SiteFits read
+    → admitted sites read ≡ Ok (name, place) → Admitted sites read name place
+admitted-enters sites read {name} fits is =
+    let (passed, named, spot) = admitted-passes sites read is in
+    subst (λ (place : Place). Admitted sites read name place) spot
+    (subst (λ (name : Name). Admitted sites read name (place_of_read read)) named
+    (record {
+      padded = site-padded fits;
+      room = passed.room;
+      listed = λ before. passed-listed before (read-rules fits passed) passed;
+      enters = passed-entered passed;
+    }))
 
 -- ---- laws: what is read fits
 

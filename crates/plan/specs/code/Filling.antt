@@ -113,16 +113,14 @@ planned_output planned = written_by planned.outcome planned.plan
 
 -- It can be: where the outcome is no refusal the plan is placed.
 pub record MayPut (planned : Planned) (out : List ℕ) : Type 0 where
-  pub valid : Valid planned.plan
   pub done_placed : planned.outcome ≡ Ok tt → planned.plan.placed ≡ true
   pub room : longest_sheet ≤ length out
 
 -- What is handed back placed, or refused, can be.
 pub handed-put : {A : Type 0} {r : Planned} {out : List ℕ} (plan-of : A → Plan) (other : Plan) (result : Result A) → r ≡ handed plan-of other result
-    → Valid r.plan → ((value : A) → (plan-of value).placed ≡ true) → longest_sheet ≤ length out → MayPut r out
-handed-put {A} {r} plan-of other result is valid placed room =
+    → ((value : A) → (plan-of value).placed ≡ true) → longest_sheet ≤ length out → MayPut r out
+handed-put {A} {r} plan-of other result is placed room =
     record {
-      valid = valid;
       done_placed = subst (λ (p : Planned). p.outcome ≡ Ok tt → p.plan.placed ≡ true) (sym is) (by_result result);
       room = room;
     }

@@ -22,12 +22,12 @@ use Rattle.plan.specs.declared.plan.Plan.{Plan}
 use Rattle.plan.specs.declared.refusal.Refusal.{Refusal}
 use Rattle.plan.specs.rules.Refusal.{first_refusal}
 use Rattle.plan.specs.rules.Calls.{finding_tests, cleared}
-use Rattle.plan.specs.rules.List.{Site, no_site, place_of, places_of, name_taken, place_taken}
-use Rattle.plan.specs.calls.Plan.{name_of, name_held, name_record, names_held, places_held, unplaced_plan, placed_with, Valid, is_unplaced}
+use Rattle.plan.specs.rules.List.{Site, Listed, no_site, place_of, places_of, name_taken, place_taken}
+use Rattle.plan.specs.calls.Plan.{name_of, name_held, name_record, names_held, places_held, unplaced_plan, placed_with, sites_in, Valid, is_unplaced}
 use Rattle.plan.specs.deciding.Output.{exists_at}
 use Rattle.plan.specs.theorems.Tables.{rows_none}
 use Rattle.plan.specs.theorems.Sites.{listed-none, listed-in-range}
-use Rattle.plan.specs.theorems.Plan.{Holding}
+use Rattle.plan.specs.theorems.Plan.{Holding, valid-holding}
 use Rattle.plan.specs.code.NameRead.{Padded}
 use Rattle.plan.specs.code.Taken.{site_of, PaddedNames, names_taken, places_taken, names-of-sites, places-of-sites}
 
@@ -115,6 +115,25 @@ holding-more {plan} {sites} holding name place named room = λ k. unplaced_of (c
 
     places : set plan.places plan.count place ≡ places_held (sites ++ (site_of name place ∷ []))
     places = (λ k. set (holding.places k) (holding.count k) place) ∙ held_more place_of nowhere sites (site_of name place) fits
+
+-- A plan that the calls hand back, with a site more by the rules, is one too.
+module _ {plan before : Plan} (same : plan ≡ before) (valid : Valid plan) (name : Name) (place : Place)
+    (named : Padded name) (listed : Listed (sites_in before ++ (site_of name place ∷ []))) where
+  pub more-room : plan.count < most_sites
+  more-room =
+      omega (
+        arith,
+        listed.few,
+        length-append (sites_in before) (site_of name place ∷ []),
+        (valid-holding valid).count,
+        ap (λ (p : Plan). length (sites_in p)) same,
+      )
+
+  pub more-valid : Valid (one_more plan name place)
+  more-valid =
+      subst Valid (sym (holding-more (valid-holding valid) name place named more-room))
+      (is_unplaced (sites_in plan ++ (site_of name place ∷ []))
+      (subst (λ (p : Plan). Listed (sites_in p ++ (site_of name place ∷ []))) (sym same) listed))
 
 -- ---- placing
 

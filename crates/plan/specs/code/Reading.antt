@@ -3,7 +3,7 @@
 use Rattle.std.specs.Prelude.{◌≡◌, refl, List, [], ◌∷◌, ◌++◌, ℕ, ◌+◌, ◌≤◌, length, drop, Some, Ok, Err}
 use Rattle.std.specs.Prelude as rattle
 use Rattle.std.specs.Result.{result_err}
-use Rattle.std.proofs.Common.{sym, ◌∙◌, arith, drop_of_length-le}
+use Rattle.std.proofs.Common.{sym, subst, ◌∙◌, arith, drop_of_length-le}
 use Rattle.std.proofs.Math.Path.{ap}
 use Rattle.placing.specs.rules.Units.{most_sites}
 use Rattle.plan.specs.declared.list.RefusedLine.{RefusedLine}
@@ -14,12 +14,12 @@ use Rattle.plan.specs.rules.Text.{line_feed}
 use Rattle.plan.specs.rules.List.{Site, Listed, list_text, TextLine, FirstLine, line_entered}
 use Rattle.plan.specs.rules.List.{Reads, end, refused_line, accepted_line}
 use Rattle.plan.specs.calls.Plan.{unplaced_plan, sites_in, Valid, is_unplaced}
-use Rattle.plan.specs.calls.Answers.{started, handed, read_from}
+use Rattle.plan.specs.calls.Answers.{started, counted, handed, read_from}
 use Rattle.plan.specs.Demands.{StopTold, at_a_line, at_no_line}
 use Rattle.plan.specs.theorems.Sites.{listed-none}
 use Rattle.plan.specs.theorems.Reading.{first-line-whole, LineOf, entered-line, list-one-more}
 use Rattle.plan.specs.theorems.Reading.{first-refused, reads-are}
-use Rattle.plan.specs.theorems.Plan.{sites-unplaced}
+use Rattle.plan.specs.theorems.Plan.{sites-unplaced, valid-holding}
 use Rattle.plan.specs.code.Line.{line_at, LineEntered, line_refused, line_accepted}
 use Rattle.plan.specs.code.CallLaws.{refusal-of}
 
@@ -66,11 +66,15 @@ module _ {text : List ℕ} {plan : Plan} {at : ℕ} (so_far : Reading text plan 
   sites_so_far : sites_in plan ≡ so_far.sites
   sites_so_far = ap sites_in so_far.held ∙ sites-unplaced so_far.sites
 
+  -- The number of the line behind them.
+  one_behind : {n : ℕ} → n ≡ counted plan → n + 1 ≡ plan.count + 1
+  one_behind count = ap (λ (m : ℕ). m + 1) (count ∙ sym (valid-holding reading-valid).count)
+
   -- Before it, reading stops at a line that is refused,
-  pub reading-refused : {new : Plan} {why : Refusal} → LineEntered text at plan (Err why) new
-      → LinesReads text (Err (record { number = plan.count + 1; at = at; why = why })) new
-  reading-refused {why = why} (line_refused {line} first refuses) =
-      stops so_far refl first (ap (λ (sites : List Site). line_entered sites line) (sym sites_so_far) ∙ refuses)
+  pub reading-refused : {new : Plan} {n : ℕ} {why : Refusal} → n ≡ counted plan → LineEntered text at plan (Err why) new
+      → LinesReads text (Err (record { number = n + 1; at = at; why = why })) new
+  reading-refused count (line_refused {line} first refuses) =
+      stops so_far (one_behind count) first (ap (λ (sites : List Site). line_entered sites line) (sym sites_so_far) ∙ refuses)
 
   -- and with an accepted one it goes on behind that line.
   pub reading-on : {new : Plan} {last : ℕ} → LineEntered text at plan (Ok last) new → Reading text new (last + 1)
@@ -96,11 +100,11 @@ module _ {text : List ℕ} {plan : Plan} {at : ℕ} (so_far : Reading text plan 
 
 module _ {text : List ℕ} where
   -- Where it stopped at a line, the text is refused, and a refusal hands back an empty plan.
-  pub lines-refused : {stop : RefusedLine} {plan fresh : Plan} → LinesReads text (Err stop) plan → (fresh ≡ started) × Valid fresh
+  pub lines-refused : {stop : RefusedLine} {plan fresh : Plan} → LinesReads text (Err stop) plan → fresh ≡ started
       → (refusal-of fresh stop.why ≡ read_from text) × Valid fresh
   lines-refused (stops {stop = stop} so_far number first refuses) empty =
       let all = reads-are (so_far.onward (refused stop.why) (refused_line first refuses)) in
-      (ap (λ (p : Plan). refusal-of p stop.why) empty.0 ∙ ap (handed unplaced_plan started) (sym all), empty.1)
+      (ap (λ (p : Plan). refusal-of p stop.why) empty ∙ ap (handed unplaced_plan started) (sym all), subst Valid (sym empty) (is_unplaced [] listed-none))
 
   -- The line where it stopped is the first refused one,
   lines-stop : {stop : RefusedLine} {plan : Plan} → LinesReads text (Err stop) plan → StopTold text (Some stop)

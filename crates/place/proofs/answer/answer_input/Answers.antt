@@ -3,6 +3,4 @@ use Rattle.place.specs.ReplyLaws.{replied-writable}
 use Rattle.place.proofs.answer.answer_input.Goals as goal
 
 pub write_answer-requires : goal.write_answer-requires
-write_answer-requires c =
-    let reply = c.reply-answer in
-    replied-writable _ _ _ reply.new.text reply.result reply.new.buffer reply.ensures
+write_answer-requires c = replied-writable c.in-Ok.ensures.replied

@@ -17,7 +17,7 @@ unfolding placed_with
 put_planned-requires c =
     let args = c.args in
     handed-put (placed_plan args.way) started (to_place (read_list args.text.now))
-    c.place_list-placed.ensures.answer c.place_list-placed.ensures.valid (λ sites. refl) (search rules)
+    c.place_list-placed.ensures.answer (λ sites. refl) (search rules)
 
 pub returns : goal.returns
 returns c =

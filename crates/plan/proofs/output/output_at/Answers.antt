@@ -17,7 +17,7 @@ unfolding placed_with
 put_planned-requires c =
     let args = c.args in
     handed-put (placed_at args.way args.side) started (to_place_at args.side (exists_at args.way args.side) (read_list args.text.now))
-    c.place_list_at-placed.ensures.answer c.place_list_at-placed.ensures.valid (λ sites. refl) (search rules)
+    c.place_list_at-placed.ensures.answer (λ sites. refl) (search rules)
 
 pub returns : goal.returns
 returns c =

@@ -3,4 +3,4 @@ use Rattle.plan.proofs.output.put_planned.Goals as goal
 
 pub compose-requires : goal.compose-requires
 compose-requires c =
-    (c.requires.valid, c.requires.done_placed c.in-Ok.is, c.requires.room)
+    (c.requires.done_placed c.in-Ok.is, c.requires.room)

@@ -9,7 +9,7 @@ pub enter_read-requires : goal.enter_read-requires
 enter_read-requires c =
     let place_is : PlaceIs (some c.args.x) (some c.args.y) c.place_at-place.result =
     place_read_lem _ _ c.coordinate_at.ensures c.coordinate_at-2.ensures c.place_at-place.ensures in
-    (c.requires, record { name_fits = name_fits c.args.name.now c.name_from.ensures; place_fits = place_is.fits })
+    record { name_fits = name_fits c.args.name.now c.name_from.ensures; place_fits = place_is.fits }
 
 pub returns : goal.returns
 returns c =
@@ -20,6 +20,5 @@ returns c =
     (entered-as-read (sites_in c.args.self.now) c.args.name.now (some c.args.x) (some c.args.y) c.name_from.ensures place_is)) in
     record {
       answer = told.0;
-      valid = told.1.0;
       told = told.1.1;
     }

@@ -22,7 +22,7 @@ pub returns-in_err-end : goal.returns-in_err-end
 returns-in_err-end c =
     let was = was-none _ c.ok_or.ensures.value c.in_err-end.was in
     rw (handed-on c.from_residual.ensures.1, was.1)
-    (line-missing c.requires.1 (subst (LineEnds c.args.text.now c.args.at) was.0 c.line_end.ensures))
+    (line-missing c.requires (subst (LineEnds c.args.text.now c.args.at) was.0 c.line_end.ensures))
 
 pub returns-in_err-site : goal.returns-in_err-site
 returns-in_err-site c =

@@ -25,12 +25,8 @@ returns-in_err-read c =
     ∙ reading-refused args.way args.text.now c.read.ensures.answer c.in_err-read.was in
     record {
       answer = refused;
-      valid = c.read.ensures.valid;
       told = list-told args.way args.text.now refused;
     }
-
-pub find-requires : goal.find-requires
-find-requires c = c.read.ensures.valid
 
 pub returns-in_err-side : goal.returns-in_err-side
 returns-in_err-side c =
@@ -41,12 +37,8 @@ returns-in_err-side c =
     c.read.ensures.answer c.in_ok-read.was (sym c.in_err-side.was ∙ c.find.ensures.answer) in
     record {
       answer = refused;
-      valid = c.read.ensures.valid;
       told = list-told args.way text refused;
     }
-
-pub choose_at-requires : goal.choose_at-requires
-choose_at-requires c = c.read.ensures.valid
 
 pub returns : goal.returns
 returns c =
@@ -56,6 +48,5 @@ returns c =
     c.read.ensures.answer c.in_ok-read.was (sym c.in_ok-side.was ∙ c.find.ensures.answer) c.choose_at.ensures.answer in
     record {
       answer = placed;
-      valid = c.choose_at.ensures.valid;
       told = list-told args.way text placed;
     }

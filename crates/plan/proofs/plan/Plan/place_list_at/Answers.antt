@@ -17,10 +17,9 @@ pub returns-then-not-is_side : goal.returns-then-not-is_side
 returns-then-not-is_side c =
     let text = c.args.text.now in
     let outside = sym c.is_side.ensures ∙ c.if-not-is_side.true in
-    let refused = ap (λ (p : Plan). refusal-of p BadNumber) c.start.ensures.answer ∙ side-refused-at c.args.way c.args.side text outside in
+    let refused = ap (λ (p : Plan). refusal-of p BadNumber) c.start.ensures ∙ side-refused-at c.args.way c.args.side text outside in
     record {
       answer = refused;
-      valid = c.start.ensures.valid;
       told = list-told-at c.args.way c.args.side text refused;
     }
 
@@ -33,24 +32,19 @@ returns-in_err-read c =
     ∙ reading-refused-at c.args.way c.args.side given text c.read.ensures.answer c.in_err-read.was in
     record {
       answer = refused;
-      valid = c.read.ensures.valid;
       told = list-told-at c.args.way c.args.side text refused;
     }
-
-pub choose_at-requires : goal.choose_at-requires
-choose_at-requires c = c.read.ensures.valid
 
 pub returns-in-Err : goal.returns-in-Err
 returns-in-Err c =
     let given : is_side c.args.side ≡ true =
     sym c.is_side.ensures ∙ c.if-not-is_side.false in
     let text = c.args.text.now in
-    let refused = ap (λ (p : Plan). refusal-of p c.in-Err.why) c.start-in-Err.ensures.answer
+    let refused = ap (λ (p : Plan). refusal-of p c.in-Err.why) c.start-in-Err.ensures
     ∙ choosing-refused c.args.way c.args.side given text (replicate full_table 0) (length-replicate {A = ℕ} full_table 0)
     c.read.ensures.answer c.in_ok-read.was c.in-Err.ensures.answer refl in
     record {
       answer = refused;
-      valid = c.start-in-Err.ensures.valid;
       told = list-told-at c.args.way c.args.side text refused;
     }
 
@@ -63,6 +57,5 @@ returns c =
     c.read.ensures.answer c.in_ok-read.was c.in_default.ensures.answer refl in
     record {
       answer = placed;
-      valid = c.in_default.ensures.valid;
       told = list-told-at c.args.way c.args.side text placed;
     }

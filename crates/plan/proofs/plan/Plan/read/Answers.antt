@@ -5,10 +5,10 @@ use Rattle.plan.proofs.plan.Plan.read.Goals as goal
 
 pub returns-in-Err : goal.returns-in-Err
 returns-in-Err c =
-    let told = read_told _ (lines-refused c.in-Err.ensures (c.start-in-Err.ensures.answer, c.start-in-Err.ensures.valid)) in
-    record { answer = told.0; valid = told.1.0; told = told.1.1 }
+    let told = read_told _ (lines-refused c.in-Err.ensures c.start-in-Err.ensures) in
+    record { answer = told.0; told = told.1.1 }
 
 pub returns : goal.returns
 returns c =
     let told = read_told _ (lines-done c.in_default.ensures) in
-    record { answer = told.0; valid = told.1.0; told = told.1.1 }
+    record { answer = told.0; told = told.1.1 }

@@ -3,6 +3,7 @@
 -- Assumes nothing.
 use Rattle.std.proofs.Common.{arith}
 use Rattle.plan.specs.code.Reading.{ends, reading-starts, reading-valid, reading-few, reading-refused, reading-on}
+use Rattle.plan.specs.theorems.Plan.{valid-holding}
 use Rattle.plan.proofs.plan.Plan.read_lines.Goals as goal
 
 pub loop-at-init : goal.loop-at-init
@@ -11,15 +12,14 @@ loop-at-init c =
 
 pub overflow_add-number : goal.overflow_add-number
 overflow_add-number c =
-    omega (arith, reading-few c.loop-at.invariant)
+    omega (arith, reading-few c.loop-at.invariant, (valid-holding (reading-valid c.loop-at.invariant)).count, c.count-number.ensures.answer)
 
 pub enter_line-requires : goal.enter_line-requires
-enter_line-requires c =
-    (reading-valid c.loop-at.invariant, c.loop-at-test.true)
+enter_line-requires c = c.loop-at-test.true
 
 pub returns-in-Err : goal.returns-in-Err
 returns-in-Err c =
-    reading-refused c.loop-at.invariant c.in-Err.ensures
+    reading-refused c.loop-at.invariant c.count-number.ensures.answer c.in-Err.ensures
 
 pub loop-at-preserved : goal.loop-at-preserved
 loop-at-preserved c =

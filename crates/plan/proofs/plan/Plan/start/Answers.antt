@@ -2,10 +2,10 @@
 use Rattle.plan.specs.code.PlanLaws.{empty-started, empty-valid}
 use Rattle.plan.proofs.plan.Plan.start.Goals as goal
 
+pub invariant_of-result : goal.invariant_of-result
+invariant_of-result c =
+    empty-valid c.none.ensures
+
 pub returns : goal.returns
 returns c =
-    let none = c.none.ensures in
-    record {
-      answer = empty-started none;
-      valid = empty-valid none;
-    }
+    empty-started c.none.ensures

@@ -1,17 +1,20 @@
--- `plan::sheet::write` meets its contract: the sheet is made in an array of its own, and copied where there is room.
+-- `Plan::write` meets its contract: the sheet is made in an array of its own, and copied where there is room.
 -- Assumes nothing.
-use Rattle.std.proofs.Common.{◌≡◌, true, ◌≤◌, arith, length}
+use Rattle.std.proofs.Common.{◌≡◌, sym, ap, subst, ◌∙◌, true, ◌≤◌, arith, length}
+use Rattle.plan.specs.declared.plan.Plan.{Plan}
+use Rattle.plan.specs.calls.Plan.{Valid}
 use Rattle.plan.specs.calls.Lengths.{longest_sheet}
 use Rattle.plan.specs.calls.Answers.{sheet_for}
 use Rattle.plan.specs.code.PutLaws.{put-length}
 use Rattle.plan.specs.code.Filling.{placed-longest, write-unplaced, write-short}
 use Rattle.plan.proofs.Guaranteed.{write-copied}
 use Rattle.plan.proofs.plan.Plan.write.Goals as goal
+use Rattle.plan.proofs.plan.Plan.write.Goals.{Else-is_none}
 
 -- A plan that is not placed is refused.
-pub returns-then-not-self : goal.returns-then-not-self
-returns-then-not-self c =
-    let told = write-unplaced c.args.self.now c.args.buffer.now c.if-not-self.true in
+pub returns-then-is_none : goal.returns-then-is_none
+returns-then-is_none c =
+    let told = write-unplaced c.args.self.now c.args.buffer.now (ap (λ (p : Plan). p.placed) (sym c.self.view_is) ∙ c.if-is_none.ensures) in
     record {
       answer = told.0;
       buffer = told.1.0;
@@ -20,15 +23,24 @@ returns-then-not-self c =
       value = told.1.1.1.1;
     }
 
--- The array is as long as the longest sheet.
+-- One that is placed is valid, and its sheet has room in an array for the longest sheet.
+placed : (c : Else-is_none) → c.args.self.now.placed ≡ true
+placed c = ap (λ (p : Plan). p.placed) (sym c.self.view_is) ∙ c.if-is_none.ensures
+
+valid : (c : Else-is_none) → Valid c.args.self.now
+valid c = subst Valid c.self.view_is c.self.invariant
+
+fits : (c : Else-is_none) → length (sheet_for c.args.self.now) ≤ longest_sheet
+fits c = placed-longest (valid c) (placed c)
+
 pub compose-n-requires : goal.compose-n-requires
-compose-n-requires c = (c.requires, c.if-not-self.false, omega arith)
+compose-n-requires c = (placed (goal.at.compose-n-requires c).Else-is_none, omega arith)
 
 -- A buffer that is too short is refused.
 pub returns-then-buffer-n : goal.returns-then-buffer-n
 returns-then-buffer-n c =
-    let is_placed : c.args.self.now.placed ≡ true = c.if-not-self.false in
-    let told = write-short c.requires is_placed (omega (arith, c.if-buffer-n.true, c.compose-n.ensures.next_is)) in
+    let at = (goal.at.returns-then-buffer-n c).Else-is_none in
+    let told = write-short (valid at) (placed at) (omega (arith, c.if-buffer-n.true, c.compose-n.ensures.next_is)) in
     record {
       answer = told.0;
       buffer = told.1.0;
@@ -39,15 +51,13 @@ returns-then-buffer-n c =
 
 pub put_bytes-requires : goal.put_bytes-requires
 put_bytes-requires c =
-    let is_placed : c.args.self.now.placed ≡ true = c.if-not-self.false in
-    let fits : length (sheet_for c.args.self.now) ≤ longest_sheet = placed-longest c.requires is_placed in
+    let room = fits (goal.at.put_bytes-requires c).Else-is_none in
     (omega (arith, put-length c.compose-n.ensures), omega arith)
 
 pub returns : goal.returns
 returns c =
-    let is_placed : c.args.self.now.placed ≡ true = c.if-not-self.false in
-    let fits : length (sheet_for c.args.self.now) ≤ longest_sheet = placed-longest c.requires is_placed in
-    let told = write-copied c.requires is_placed c.compose-n.ensures fits c.if-buffer-n.false c.put_bytes.ensures in
+    let at = (goal.at.returns c).Else-is_none in
+    let told = write-copied (valid at) (placed at) c.compose-n.ensures (fits at) c.if-buffer-n.false c.put_bytes.ensures in
     record {
       answer = told.0;
       buffer = told.1.0;

@@ -1,0 +1,34 @@
+// The labels of a list.
+use crate::sites::Place;
+use std::alloc::{AllocError, Global};
+
+// The place of a site and the corner of its label.
+#[derive(Clone, Copy)]
+pub struct Label {
+    pub place: Place,
+    pub corner: u8,
+}
+
+impl Label {
+    // Corners 1 and 4 put the label right of its site, 2 and 3 left.
+    pub fn goes_right(self) -> bool {
+        matches!(self.corner, 1 | 4)
+    }
+
+    // Corners 1 and 2 put the label up of its site, 3 and 4 down.
+    pub fn goes_up(self) -> bool {
+        matches!(self.corner, 1 | 2)
+    }
+}
+
+// The labels of these sites at these corners.
+pub fn labels_of(alloc: Global, sites: &[Place], corners: &[u8]) -> Result<Vec<Label>, AllocError> {
+    sites
+        .iter()
+        .zip(corners)
+        .map(|(place, corner)| Label {
+            place: *place,
+            corner: *corner,
+        })
+        .collect(alloc)
+}

@@ -1,2 +1,0 @@
--- What the contracts of counts cite.
-pub mod Counts

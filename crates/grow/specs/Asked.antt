@@ -3,20 +3,13 @@
 use Rattle.std.specs.Prelude.{true, false, ℕ, suc}
 use Rattle.std.proofs.Math.Option.{Option}
 use Rattle.desk.specs.declared.Word.{Word}
-use Rattle.desk.specs.Words.{Counted, bytes_in}
+use Rattle.desk.specs.Words.{bytes_in}
 use Rattle.placing.specs.declared.units.Place.{Place}
 use Rattle.placing.specs.rules.Units.{greatest_coordinate}
 use Rattle.plan.specs.rules.Text.{number_in, or_zero}
 use Rattle.plan.specs.rules.List.{place_at, is_coordinate}
-use Rattle.growth.specs.declared.AskedGrowth.{AskedGrowth}
-use Rattle.growth.specs.Asked.{growth_asked}
+use Rattle.growth.specs.Asked.{AskedGrowth, growth_asked}
 use Rattle.grow.specs.declared.asked.LabelWords.{LabelWords}
-
--- Three words whose lengths count bytes that stand there.
-pub record Words (label : LabelWords) : Type 0 where
-  pub x_counted : Counted label.x
-  pub y_counted : Counted label.y
-  pub corner_counted : Counted label.corner
 
 -- The number that a text writes, as in a list. One above 10,000 is no coordinate and no corner, and 10,001 stands for it; so it does for a
 -- text that writes none.

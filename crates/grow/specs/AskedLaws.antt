@@ -1,6 +1,6 @@
 -- Laws of `Asked`: words that write six numbers ask for these, whatever they are, and a word that writes none is refused.
 -- Assumes nothing.
-use Rattle.std.specs.Prelude.{◌≡◌, refl, Bool, true, false, List, ◌⊎◌, ℕ, ◌≤◌, ◌<◌}
+use Rattle.std.specs.Prelude.{◌≡◌, refl, Bool, true, false, List, ◌⊎◌, ℕ, ◌≤◌, ◌<◌, Err}
 use Rattle.std.proofs.Common.{ap, ◌∙◌, ⊎_elim, arith, le-leb}
 use Rattle.std.proofs.Math.Option.{Option, none, some}
 use Rattle.std.proofs.Math.Decide.{dec_le}
@@ -14,9 +14,7 @@ use Rattle.plan.specs.rules.Text.{decimal, number_in, or_zero}
 use Rattle.plan.specs.rules.List.{place_at, is_coordinate}
 use Rattle.plan.specs.calls.Given.{coordinate_read}
 use Rattle.plan.specs.theorems.Text.{number-decimal}
-use Rattle.growth.specs.declared.AskedGrowth.{AskedGrowth}
-use Rattle.growth.specs.declared.AskedGrowth.TheVariants.{NoGrowth}
-use Rattle.growth.specs.Asked.{growth_asked, HasLabel, GrowthTold, told, told_3}
+use Rattle.growth.specs.Asked.{AskedGrowth, growth_asked, HasLabel, GrowthTold, told, told_3}
 use Rattle.growth.specs.AskedLaws.{asked-tells, told-one}
 use Rattle.grow.specs.declared.asked.LabelWords.{LabelWords}
 use Rattle.grow.specs.Asked.{outside, number_or, number_given, place_given, growth_by_words}
@@ -126,7 +124,7 @@ none-given (no_y is) has = omega (arith, ap number_or is, has.on_plan.on_y)
 none-given (no_corner is) has = omega (arith, ap number_or is, has.corner.most)
 
 -- Such words are refused with 3.
-pub words-refused : {own other : LabelWords} → NoNumber own ⊎ NoNumber other → growth_by_words own other ≡ NoGrowth BadNumber
+pub words-refused : {own other : LabelWords} → NoNumber own ⊎ NoNumber other → growth_by_words own other ≡ Err BadNumber
 words-refused {own} {other} bad =
     told-one (asked-tells (place_given own) (number_given own.corner) (place_given other) (number_given other.corner))
     (told_3 (λ has has_other. ⊎_elim (λ no_own. none-given no_own has) (λ no_other. none-given no_other has_other) bad))

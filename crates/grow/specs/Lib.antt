@@ -2,6 +2,5 @@
 pub mod Asked
 pub mod AskedLaws
 -- What is written.
-pub mod Digits
 pub mod Text
 pub mod TextLaws

@@ -3,13 +3,12 @@
 #![tactic(auto)]
 
 mod asked;
-mod digits;
 mod explain;
 mod text;
 mod usage;
 mod write;
 
-use crate::asked::{growth_asked, label_at};
+use crate::asked::{LabelWords, growth_asked};
 use crate::usage::tell_usage;
 use crate::write::write_growth;
 use desk::word_count;
@@ -19,13 +18,13 @@ fn main(rt: HostRuntime) {
         tell_usage(&mut rt.stderr());
         return;
     }
-    let own = label_at(&rt, 1);
-    let other = label_at(&rt, 4);
+    let own = LabelWords::at(&rt, 1);
+    let other = LabelWords::at(&rt, 4);
     write_growth(
         &mut rt.stdout(),
         &mut rt.stderr(),
-        growth_asked(own, other),
-        own,
-        other,
+        growth_asked(&own, &other),
+        &own,
+        &other,
     );
 }

@@ -1,38 +1,36 @@
 // The answer on standard output.
-ghost use Rattle.grow.specs.Asked.{Words};
+ghost use Rattle.std.specs.Prelude.{[], ◌∷◌, ◌++◌, OnOk};
+ghost use Rattle.std.specs.Io.KnownBytes.{Appends};
+ghost use Rattle.plan.specs.rules.Text.{line_feed};
+ghost use Rattle.grow.specs.Text.{asked_text};
 
 use crate::asked::LabelWords;
 use crate::explain::tell_refused;
-use crate::text::asked_text;
+use crate::text::Told;
 use desk::tell;
-use growth::AskedGrowth;
+use placing::units::Growth;
+use plan::refusal::Refusal;
 use std::io;
 use std::io::Write;
 
-// Writes a text and a line feed.
-fn write_line<W: Write>(out: &mut W, text: &[u8]) -> io::Result<()> {
-    out.write_all(text)?;
-    out.write_all(b"\n")
+// Writes what is told of two labels, and a line feed.
+fn write_told<W: Write>(out: &mut W, asked: Result<Growth, Refusal>) -> io::Result<()>
+    ensures { OnOk result (Appends (W.contents out.old) (W.contents out.new) (asked_text asked ++ (line_feed ∷ []))) }
+{
+    writeln!(out, "{}", Told(asked))
 }
 
 // Writes how far the labels of these words grow; or the refusal, and on standard error which word is refused and why.
 pub(crate) fn write_growth<W: Write, E: Write>(
     out: &mut W,
     err: &mut E,
-    asked: AskedGrowth,
-    own: LabelWords,
-    other: LabelWords,
-)
-    requires { Words own × Words other }
-{
-    let text = asked_text(asked);
-    let bytes = text.bytes;
-    let n = text.len;
-    if write_line(out, &bytes[..n]).is_err() {
-        tell(err, b"grow: standard output cannot be written\n");
-        return;
-    }
-    if let AskedGrowth::NoGrowth(_) = asked {
+    asked: Result<Growth, Refusal>,
+    own: &LabelWords,
+    other: &LabelWords,
+) {
+    if write_told(out, asked).is_err() {
+        tell(err, "grow: standard output cannot be written\n");
+    } else if asked.is_err() {
         tell_refused(err, own, other);
     }
 }

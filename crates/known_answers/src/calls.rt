@@ -1,6 +1,4 @@
 // The public calls, asked one after another of one plan.
-ghost use Rattle.plan.specs.calls.Plan.{Valid};
-
 use crate::limits::limit;
 use crate::names::accepted_names;
 use crate::question::Question;
@@ -19,7 +17,6 @@ use std::fmt;
 pub struct State {
     plan: Plan,
     lent: Vec<u8>,
-    ghost valid: { ∥ Valid plan ∥₁ },
 }
 
 // A side as the cases have it.

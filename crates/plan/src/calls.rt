@@ -41,12 +41,7 @@ pub fn is_side(side: Side) -> bool
     ensures { result ≡ is_side side }
 {
     match side {
-        Side::Number(h) => {
-            if h.0 < Limits::LEAST_SIDE {
-                return false;
-            }
-            h.0 <= Limits::GREATEST_SIDE
-        }
+        Side::Number(h) => (Limits::LEAST_SIDE..=Limits::GREATEST_SIDE).contains(&h.0),
         Side::Free => true,
     }
 }
@@ -100,8 +95,7 @@ impl Plan {
         ensures value { side_carried result
             ≡ carried_at (number_by (side_tests self.now.placed)) (side_number (answer_for self.now).side) }
     {
-        let placement = self.placement.ok_or(Refusal::NotPlaced)?;
-        Ok(placement.side)
+        Ok(self.placement.ok_or(Refusal::NotPlaced)?.side)
     }
 
     // The corner of site number `i`: tests 9, 6.

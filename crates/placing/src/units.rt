@@ -21,14 +21,16 @@ pub struct Place {
     pub y: Units,
 }
 
-// A side, found or given: a whole number of half units, or free, where no side is too large.
+// A side, found or given: a whole number of half units, or free, where no side is too large. Free is an answer of the rules and no absence,
+// so this is no Option.
 #[derive(Clone, Copy, PartialEq, Eq)]
 pub enum Side {
     Number(HalfUnits),
     Free,
 }
 
-// How far two labels grow: up to a side, the greatest at which they do not meet; or they never meet, which is further than any side.
+// How far two labels grow: up to a side, the greatest at which they do not meet; or they never meet, which is further than any side, and
+// no absence of an answer.
 #[derive(Clone, Copy, PartialEq, Eq, PartialOrd, Ord)]
 pub enum Growth {
     UpTo(HalfUnits),
@@ -67,7 +69,7 @@ impl Limits {
 }
 
 impl Units {
-    // The one conversion: a unit is two half units.
+    // The one conversion: a unit is two half units. It is no From, since it asks for a coordinate: twice any number would not fit.
     pub(crate) fn in_half_units(self) -> HalfUnits
         requires { self.0 ≤ greatest_coordinate }
         ensures { result.0 ≡ in_half_units self.0 }

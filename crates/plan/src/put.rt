@@ -5,7 +5,6 @@ ghost use Rattle.plan.specs.calls.Plan.{name_held};
 ghost use Rattle.plan.specs.code.Put.{Put};
 
 use crate::name::Name;
-use crate::number::ZERO;
 
 // One byte.
 pub(crate) fn put_byte(out: &mut [u8], at: usize, b: u8) -> usize
@@ -43,8 +42,8 @@ pub(crate) fn put_decimal(out: &mut [u8], at: usize, n: u32) -> usize
     ensures { Put out.old at (decimal n) result out.new }
 {
     if n < 10 {
-        return put_byte(out, at, (ZERO + n) as u8);
+        return put_byte(out, at, b'0' + n as u8);
     }
     let next = put_decimal(out, at, n / 10);
-    put_byte(out, next, (ZERO + n % 10) as u8)
+    put_byte(out, next, b'0' + (n % 10) as u8)
 }

@@ -80,7 +80,7 @@ impl Plan {
         if buffer.len() < n {
             return Err(Refusal::ShortBuffer);
         }
-        put_bytes(buffer, 0, &sheet, n);
+        buffer[..n].copy_from_slice(&sheet[..n]);
         Ok(n)
     }
 }

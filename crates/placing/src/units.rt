@@ -38,12 +38,14 @@ pub enum Growth {
 }
 
 // The side at which a side is judged: free at 20,001.
-pub(crate) fn judged_at(side: Side) -> HalfUnits
-    ensures { result.0 ≡ judged_at side }
-{
-    match side {
-        Side::Number(h) => h,
-        Side::Free => HalfUnits(Limits::FREE_SIDE),
+impl From<Side> for HalfUnits {
+    ghost from_gives = { λ side judged. judged.0 ≡ judged_at side };
+
+    fn from(side: Side) -> HalfUnits {
+        match side {
+            Side::Number(h) => h,
+            Side::Free => HalfUnits(Limits::FREE_SIDE),
+        }
     }
 }
 
@@ -78,26 +80,7 @@ impl Units {
     }
 }
 
-// Half units are compared with half units only, by these methods.
 impl HalfUnits {
-    pub(crate) fn below(self, other: HalfUnits) -> bool
-        ensures { Decides result (self.0 < other.0) }
-    {
-        self.0 < other.0
-    }
-
-    pub(crate) fn at_most(self, other: HalfUnits) -> bool
-        ensures { Decides result (self.0 ≤ other.0) }
-    {
-        self.0 <= other.0
-    }
-
-    pub(crate) fn larger(self, other: HalfUnits) -> HalfUnits
-        ensures { result.0 ≡ max self.0 other.0 }
-    {
-        if self.0 <= other.0 { other } else { self }
-    }
-
     // Two labels meet at the sides that exceed their growth.
     pub(crate) fn exceeds(self, growth: Growth) -> bool
         ensures { Decides result (Exceeds self.0 1 growth) }

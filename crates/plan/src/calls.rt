@@ -16,7 +16,7 @@ ghost use Rattle.plan.specs.Demands.{EnterTold, FindTold, ChooseTold, SideTold, 
 
 use crate::name::name_from;
 use crate::number::{coordinate_at, place_at};
-use crate::plan::{Placement, Plan};
+use crate::plan::{Placement, Plan, SiteRead};
 use crate::refusal::Refusal;
 use placing::place::{choose_corners, find_side};
 use placing::units::{Limits, Side};
@@ -52,9 +52,11 @@ impl Plan {
         ensures answer { record { outcome = result; plan = self.new } ≡ entered_in self.old name.now x y }
         ensures told { EnterTold self.old name.now x y (record { outcome = result; plan = self.new }) }
     {
-        let site_name = name_from(name);
-        let site_place = place_at(coordinate_at(x), coordinate_at(y));
-        self.enter_read(site_name, site_place)
+        let place = place_at(coordinate_at(x), coordinate_at(y));
+        self.enter_read(SiteRead {
+            name: name_from(name),
+            place,
+        })
     }
 
     // Finds the greatest side of the plan's sites by a way: tests 8, 11.

@@ -14,7 +14,7 @@ ghost use Rattle.placing.specs.code.Steps.{Waits, FirstWaiting, mark_of, Marked,
 
 use crate::corner::{Directions, directions_of};
 use crate::fresh::State;
-use crate::geometry::{Label, distance, growth};
+use crate::geometry::{Label, distance};
 use crate::labels::Labels;
 use crate::sites::index_of;
 use crate::units::{Limits, Place};
@@ -136,7 +136,7 @@ impl Labels<'_> {
             site: Place { x, y },
             toward,
         };
-        if self.side.exceeds(growth(own, other)) {
+        if self.side.exceeds(own.growth(other)) {
             return j != k;
         }
         false
@@ -173,10 +173,7 @@ impl Labels<'_> {
     {
         // A copy, so that the side and where the sites stand are read once and not for each site.
         let labels = *self;
-        let own = Label {
-            site: labels.sites[k],
-            toward: directions_of(state.decided[k]),
-        };
+        let own = Label::at(labels.sites[k], state.decided[k]);
         let toward = directions_of(e);
         for j in from..labels.sites.len() {
             if !labels.carry_to(state, k, own, j, e, toward) {

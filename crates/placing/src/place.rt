@@ -7,7 +7,7 @@ ghost use Rattle.placing.specs.deciding.Answer.{answer_of, first_good};
 
 use crate::labels::Labels;
 use crate::side::greatest_side;
-use crate::units::{Limits, Place, Side, judged_at};
+use crate::units::{HalfUnits, Limits, Place, Side};
 use crate::way::Way;
 
 // The greatest side of these sites, by a way. Of the lent table the first bytes, one a site, hold marks until the end.
@@ -38,7 +38,7 @@ pub fn choose_corners(
     let labels = Labels {
         sites,
         way,
-        side: judged_at(side),
+        side: HalfUnits::from(side),
     };
     let corners = labels.first_choice(&mut table[..n]);
     table[..n * n].fill(0);

@@ -12,7 +12,7 @@ loop-j-init c =
 pub carry_to-requires : goal.carry_to-requires
 carry_to-requires c =
     may-carry-to c.requires c.loop-j.invariant c.loop-j-test.true
-    (λ i. record { site = site_at c.args.self.now.sites.now c.args.k; toward = c.directions_of.ensures i }) c.directions_of-toward.ensures
+    c.at-own.ensures c.directions_of-toward.ensures
 
 pub returns-then-not-carry_to : goal.returns-then-not-carry_to
 returns-then-not-carry_to c =

@@ -10,17 +10,11 @@ pub enum Side {
 
 impl Side {
     pub fn is_even(self) -> bool {
-        match self {
-            Side::Number(h) => h % 2 == 0,
-            Side::Free => false,
-        }
+        matches!(self, Side::Number(h) if h % 2 == 0)
     }
 
     pub fn is_odd(self) -> bool {
-        match self {
-            Side::Number(h) => h % 2 == 1,
-            Side::Free => false,
-        }
+        matches!(self, Side::Number(h) if h % 2 == 1)
     }
 }
 

@@ -4,7 +4,7 @@ use crate::counts::{Tally, name_of};
 use crate::enumerate::{enumerate, enumerate_at, holds_over_twice};
 use crate::given::given;
 use crate::lists::draw_sites;
-use crate::product::{output_of, output_of_at};
+use crate::product::output_of;
 use crate::random::Random;
 use crate::side::Side;
 use crate::sites::{Place, in_one_row, list_of};
@@ -14,15 +14,18 @@ use std::io;
 // Sides are given for lists of at most so many sites: with more, trying every list of corners at each would take long.
 const MOST_GIVEN: usize = 5;
 
-// What came is not what should come, byte for byte. If so, the way, the list and both are printed.
+// The product's output by a way, at the side found or at a given one, is not that of this answer, byte for byte. If so, the way, the
+// list, both outputs and the given side are printed.
 fn differs(
     rt: &(impl Print + AllocGlobal),
     sites: &[Place],
     way: Way,
-    came: &[u8],
-    should: &str,
+    given: Option<Side>,
+    right: &Answer,
 ) -> io::Result<bool> {
-    if came == should.as_bytes() {
+    let came = output_of(rt.alloc(), sites, way, given)?;
+    let should = right.output(rt.alloc())?;
+    if came.as_slice() == should.as_bytes() {
         return Ok(false);
     }
     let list = list_of(rt.alloc(), sites)?;
@@ -30,7 +33,10 @@ fn differs(
         "difference, {}\n{list}should be\n{should}came\n",
         name_of(way)
     )?;
-    rt.write_all(came)?;
+    rt.write_all(&came)?;
+    if let Some(side) = given {
+        println!(rt; "at the given side {side}")?;
+    }
     Ok(true)
 }
 
@@ -55,9 +61,7 @@ fn judge_by(
     way: Way,
     right: &Answer,
 ) -> io::Result<()> {
-    let came = output_of(rt.alloc(), sites, way)?;
-    let should = right.output(rt.alloc())?;
-    let differs = differs(rt, sites, way, &came, &should)?;
+    let differs = differs(rt, sites, way, None, right)?;
     let counts = tally.by(way);
     counts.lists.add(true);
     counts.free.add(right.side == Side::Free);
@@ -92,12 +96,7 @@ pub fn judge_at(
     way: Way,
     right: &Answer,
 ) -> io::Result<()> {
-    let came = output_of_at(rt.alloc(), sites, way, right.side)?;
-    let should = right.output(rt.alloc())?;
-    let differs = differs(rt, sites, way, &came, &should)?;
-    if differs {
-        println!(rt; "at the given side {}", right.side)?;
-    }
+    let differs = differs(rt, sites, way, Some(right.side), right)?;
     let counts = tally.by(way);
     counts.given.add(true);
     counts.without.add(right.labels.is_none());

@@ -1,6 +1,6 @@
-// Answers that are wrong for document 01's list A, B, C, whose side is 6 with corners 3, 1, 1, and above the spot 8 with 1, 1, 1, and for a
-// column of seven sites. Judging the product by them is meant to tell of a difference each, so that the stored output changes when the comparing breaks, or when a way
-// is taken for the other.
+// Answers that are wrong for document 01's list A, B, C, whose side is 6 with corners 3, 1, 1, and above the spot 8 with 1, 1, 1, and for
+// a column of seven sites. Judging the product by them is meant to tell of a difference each, so that the stored output changes when the
+// comparing breaks, or when a way is taken for the other.
 use crate::answer::Answer;
 use crate::counts::Tally;
 use crate::labels::labels_of;

@@ -1,6 +1,4 @@
 // The public calls, asked one after another of one plan.
-ghost use Rattle.plan.specs.calls.Plan.{Valid};
-
 use crate::limits::limit;
 use crate::names::accepted_names;
 use crate::question::Question;
@@ -19,7 +17,6 @@ use std::fmt;
 pub struct State {
     plan: Plan,
     lent: Vec<u8>,
-    ghost valid: { ∥ Valid plan ∥₁ },
 }
 
 // A side as the cases have it.
@@ -51,17 +48,18 @@ fn accepted(alloc: Global, answer: Result<(), Refusal>) -> Result<String, AllocE
     answered(alloc, answer.map(|_| "accepted"))
 }
 
-// The whole output for a text, by a way.
-fn output_for(alloc: Global, text: &[u8], way: Way) -> Result<String, AllocError> {
+// The whole output for a text, by a way, at the side found or at a given one.
+fn whole_output(
+    alloc: Global,
+    text: &[u8],
+    way: Way,
+    given: Option<Side>,
+) -> Result<String, AllocError> {
     let mut buffer = [0u8; TextLimits::SHEET];
-    let n = output(text, way, &mut buffer);
-    Quoted(&buffer[..n]).to_string(alloc)
-}
-
-// The whole output for a text, by a way at a side.
-fn output_for_at(alloc: Global, text: &[u8], way: Way, side: Side) -> Result<String, AllocError> {
-    let mut buffer = [0u8; TextLimits::SHEET];
-    let n = output_at(text, way, side, &mut buffer);
+    let n = match given {
+        Some(side) => output_at(text, way, side, &mut buffer),
+        None => output(text, way, &mut buffer),
+    };
     Quoted(&buffer[..n]).to_string(alloc)
 }
 
@@ -86,7 +84,7 @@ impl State {
         }
         match question {
             Question::Enter { name, x, y } => accepted(alloc, self.plan.enter(name, *x, *y)),
-            Question::Read { text } => accepted(alloc, self.plan.read(text)),
+            Question::Read(text) => accepted(alloc, self.plan.read(text)),
             Question::Find { way, .. } => {
                 answered(alloc, self.plan.find(*way, &mut self.lent).map(Size))
             }
@@ -95,13 +93,12 @@ impl State {
             }
             Question::Place { way, .. } => accepted(alloc, self.place(*way)),
             Question::Side => answered(alloc, self.plan.side().map(Size)),
-            Question::Corner { site } => answered(alloc, self.plan.corner(*site)),
+            Question::Corner(i) => answered(alloc, self.plan.corner(*i)),
             Question::Count => self.plan.count().to_string(alloc),
-            Question::Write { .. } => answered(alloc, self.plan.write(&mut self.lent)),
-            Question::Output { way, text } => output_for(alloc, text, *way),
-            Question::OutputAt { way, side, text } => output_for_at(alloc, text, *way, *side),
+            Question::Write(_) => answered(alloc, self.plan.write(&mut self.lent)),
+            Question::Output { way, given, text } => whole_output(alloc, text, *way, *given),
             Question::Lent => Quoted(&self.lent).to_string(alloc),
-            Question::Limit { name } => limit(name).to_string(alloc),
+            Question::Limit(name) => limit(name).to_string(alloc),
             Question::Names => Quoted(&accepted_names(alloc)?).to_string(alloc),
         }
     }

@@ -12,19 +12,36 @@ use std::alloc::{AllocError, Global};
 
 #[derive(Drop)]
 pub enum Question {
-    Enter { name: Vec<u8>, x: u64, y: u64 },
-    Read { text: Vec<u8> },
-    Find { way: Way, table: usize },
-    Choose { way: Way, side: Side, table: usize },
-    Place { way: Way, table: usize },
+    Enter {
+        name: Vec<u8>,
+        x: u64,
+        y: u64,
+    },
+    Read(Vec<u8>),
+    Find {
+        way: Way,
+        table: usize,
+    },
+    Choose {
+        way: Way,
+        side: Side,
+        table: usize,
+    },
+    Place {
+        way: Way,
+        table: usize,
+    },
     Side,
-    Corner { site: usize },
+    Corner(usize),
     Count,
-    Write { buffer: usize },
-    Output { way: Way, text: Vec<u8> },
-    OutputAt { way: Way, side: Side, text: Vec<u8> },
+    Write(usize),
+    Output {
+        way: Way,
+        given: Option<Side>,
+        text: Vec<u8>,
+    },
     Lent,
-    Limit { name: Vec<u8> },
+    Limit(Vec<u8>),
     Names,
 }
 
@@ -94,6 +111,7 @@ impl Words<'_> {
             },
             "output" => Question::Output {
                 way,
+                given: None,
                 text: self.text(alloc)?,
             },
             "output-at" => output_at(alloc, way, self.quoted.unwrap_or(""))?,
@@ -110,17 +128,13 @@ impl Words<'_> {
                 x: a,
                 y: b,
             },
-            "read" => Question::Read {
-                text: self.text(alloc)?,
-            },
+            "read" => Question::Read(self.text(alloc)?),
             "side" => Question::Side,
-            "corner" => Question::Corner { site: a as usize },
+            "corner" => Question::Corner(a as usize),
             "count" => Question::Count,
-            "write" => Question::Write { buffer: a as usize },
+            "write" => Question::Write(a as usize),
             "lent" => Question::Lent,
-            "limit" => Question::Limit {
-                name: self.text(alloc)?,
-            },
+            "limit" => Question::Limit(self.text(alloc)?),
             "names" => Question::Names,
             _ => return Ok(None),
         }))
@@ -135,9 +149,9 @@ fn numbered(number: u64) -> Side {
 // The list stands behind the word of a side and a space.
 fn output_at(alloc: Global, way: Way, quoted: &str) -> Result<Question, AllocError> {
     let (side, list) = quoted.split_once(' ').unwrap_or((quoted, ""));
-    Ok(Question::OutputAt {
+    Ok(Question::Output {
         way,
-        side: side_from(side.as_bytes()),
+        given: Some(side_from(side.as_bytes())),
         text: unquoted(alloc, list)?,
     })
 }
@@ -149,7 +163,7 @@ impl Question {
             Question::Find { table, .. }
             | Question::Choose { table, .. }
             | Question::Place { table, .. } => Some(*table),
-            Question::Write { buffer } => Some(*buffer),
+            Question::Write(bytes) => Some(*bytes),
             _ => None,
         }
     }

@@ -12,6 +12,7 @@ ghost use Rattle.placing.specs.declared.way.Way.TheVariants.{Usual, Above};
 ghost use Rattle.placing.specs.code.Crowding.{TopLeft, CrowdingIs, UpperReach};
 
 use crate::geometry::{distance, distance_between, lies_toward};
+use crate::labels::Labels;
 use crate::units::{HalfUnits, Limits, Place};
 use crate::way::Way;
 
@@ -30,7 +31,7 @@ fn lowered(reach: HalfUnits, away: HalfUnits, s: Place, c: u8, t: Place) -> Half
     requires { Corner c × (away.0 ≡ distance_between s t) }
     ensures { Lowered s c t reach.0 result.0 }
 {
-    if reach.at_most(away) {
+    if reach <= away {
         return reach;
     }
     if lies_toward(s, c, t) { away } else { reach }
@@ -62,14 +63,16 @@ fn lower_pair(
     i: usize,
     s: Place,
     j: usize,
-    t: Place,
+    t: &Place,
 )
-    requires { MayLower reaches.old top i s j t }
-    ensures { PairLowered top.0 i s j t reaches.old reaches.new }
+    requires { MayLower reaches.old top i s j t.now }
+    ensures { PairLowered top.0 i s j t.now reaches.old reaches.new }
 {
-    if top.doubled().at_most(distance(s.x, t.x)) {
+    let Place { x, y } = *t;
+    if top.doubled() <= distance(s.x, x) {
         return;
     }
+    let t = Place { x, y };
     let away = distance_between(s, t);
     lower_site(reaches, i, s, t, away);
     lower_site(reaches, j, t, s, away);
@@ -83,7 +86,7 @@ fn lower_row(sites: &[Place], reaches: &mut [u32; Limits::ALL_CORNERS], top: Hal
 {
     let s = sites[i];
     for j in i + 1..sites.len() {
-        lower_pair(reaches, top, i, s, j, sites[j]);
+        lower_pair(reaches, top, i, s, j, &sites[j]);
     }
 }
 
@@ -96,26 +99,9 @@ fn top_left(reaches: &[u32; Limits::ALL_CORNERS], i: usize, top: HalfUnits) -> H
     let mut furthest = HalfUnits(0);
     for e in 0..Limits::CORNERS {
         let at = 4 * i + e;
-        furthest = furthest.larger(HalfUnits(reaches[at]));
+        furthest = furthest.max(HalfUnits(reaches[at]));
     }
-    let half = furthest.halved();
-    if half.below(top) { half } else { top }
-}
-
-// The reaches of all sites for sides up to `most`, and the top. Over no sites they are twice `most`; each pair of sites is gone over once.
-// The top falls with each site, and the next pairs are gone over for sides up to it.
-fn crowding_of(sites: &[Place], most: HalfUnits) -> Crowding
-    requires { Held sites.now most }
-    ensures { CrowdingIs Usual most.0 sites.now result }
-{
-    let furthest = most.doubled();
-    let mut reaches = [furthest.0; Limits::ALL_CORNERS];
-    let mut top = most;
-    for i in 0..sites.len() {
-        lower_row(sites, &mut reaches, top, i);
-        top = top_left(&reaches, i, top);
-    }
-    Crowding { reaches, top }
+    top.min(furthest.halved())
 }
 
 // The reach of the corner at a place of the array, above the spot: as far as can be for corners 1 and 2, nothing for 3 and 4.
@@ -138,13 +124,29 @@ fn upper_corners(n: usize, most: HalfUnits) -> Crowding
     Crowding { reaches, top: most }
 }
 
-// The reaches of all sites by a way, for sides up to `most`, and the top.
-pub(crate) fn reaches_of(sites: &[Place], way: Way, most: HalfUnits) -> Crowding
-    requires { Held sites.now most }
-    ensures { CrowdingIs way most.0 sites.now result }
-{
-    match way {
-        Way::Usual => crowding_of(sites, most),
-        Way::Above => upper_corners(sites.len(), most),
+impl Labels<'_> {
+    // The reaches of all sites for sides up to the labels', and the top, by the usual way. Over no sites they are twice that side; each pair
+    // of sites is gone over once. The top falls with each site, and the next pairs are gone over for sides up to it.
+    fn crowding_of(&self) -> Crowding
+        ensures { CrowdingIs Usual self.now.side.0 self.now.sites.now result }
+    {
+        let furthest = self.side.doubled();
+        let mut reaches = [furthest.0; Limits::ALL_CORNERS];
+        let mut top = self.side;
+        for i in 0..self.sites.len() {
+            lower_row(self.sites, &mut reaches, top, i);
+            top = top_left(&reaches, i, top);
+        }
+        Crowding { reaches, top }
+    }
+
+    // The reaches of all sites by the labels' way, for sides up to theirs, and the top.
+    pub(crate) fn crowding(&self) -> Crowding
+        ensures { CrowdingIs self.now.way self.now.side.0 self.now.sites.now result }
+    {
+        match self.way {
+            Way::Usual => self.crowding_of(),
+            Way::Above => upper_corners(self.sites.len(), self.side),
+        }
     }
 }

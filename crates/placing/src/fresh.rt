@@ -7,7 +7,8 @@ ghost use Rattle.placing.specs.code.Fresh.{OpenByte, FreshState};
 use crate::crowding::Crowding;
 use crate::units::{HalfUnits, Limits};
 
-// Which corners are open and which is decided, for every site.
+// Which corners are open and which is decided, for every site. Four bytes a site say which corners are open, and one byte which is decided,
+// or 0: a trial reads and writes them one by one.
 #[derive(Clone, Copy)]
 pub(crate) struct State {
     pub opens: [u8; Limits::ALL_CORNERS],
@@ -19,13 +20,13 @@ fn is_open(reach: HalfUnits, side: HalfUnits) -> u8
     requires { Judged side }
     ensures { OpenByte reach.0 side.0 result }
 {
-    if side.doubled().at_most(reach) { 1 } else { 0 }
+    if side.doubled() <= reach { 1 } else { 0 }
 }
 
-// The state at a side, before anything is decided.
-pub(crate) fn fresh_state(crowding: Crowding, n: usize, side: HalfUnits) -> State
+// The state of `n` sites at a side, before anything is decided.
+pub(crate) fn fresh_state(crowding: &Crowding, n: usize, side: HalfUnits) -> State
     requires { (n ≤ most_sites) × Judged side }
-    ensures { FreshState crowding n side result.opens result.decided }
+    ensures { FreshState crowding.now n side result }
 {
     let mut opens = [0u8; Limits::ALL_CORNERS];
     for at in 0..4 * n {

@@ -6,6 +6,7 @@ ghost use Rattle.placing.specs.rules.Label.{Onward};
 ghost use Rattle.placing.specs.rules.Growth.{growth_number};
 ghost use Rattle.placing.specs.deciding.Decides.{Decides};
 ghost use Rattle.placing.specs.deciding.Growth.{growth_along, growth_of};
+ghost use Rattle.placing.specs.code.Steps.{label_at};
 ghost use Rattle.placing.specs.code.Reach.{LiesToward, distance_between};
 
 use crate::corner::{Direction, Directions, directions_of};
@@ -70,33 +71,38 @@ pub(crate) struct Label {
     pub toward: Directions,
 }
 
-// The pair test: how far the two labels grow. Of the growths along both axes it is the further, up to which they do not meet: never if either
-// is never, else the larger.
-pub(crate) fn growth(own: Label, other: Label) -> Growth
-    requires { OnPlan own.site × OnPlan other.site }
-    ensures { (c e : ℕ) → own.toward ≡ directions_of c → other.toward ≡ directions_of e
-        → result ≡ growth_of own.site c other.site e }
-{
-    let (s, t) = (own.site, other.site);
-    let (d, e) = (own.toward, other.toward);
-    let along_x = growth_along(d.x, s.x, e.x, t.x);
-    let along_y = growth_along(d.y, s.y, e.y, t.y);
-    along_x.max(along_y)
+impl Label {
+    // The label at corner `c` of a site.
+    pub(crate) fn at(site: Place, c: u8) -> Label
+        requires { Corner c }
+        ensures { result ≡ label_at site c }
+    {
+        Label {
+            site,
+            toward: directions_of(c),
+        }
+    }
+
+    // The pair test: how far the two labels grow. Of the growths along both axes it is the further, up to which they do not meet: never if
+    // either is never, else the larger.
+    pub(crate) fn growth(self, other: Label) -> Growth
+        requires { OnPlan self.site × OnPlan other.site }
+        ensures { (c e : ℕ) → self.toward ≡ directions_of c → other.toward ≡ directions_of e
+            → result ≡ growth_of self.site c other.site e }
+    {
+        let (s, t) = (self.site, other.site);
+        let (d, e) = (self.toward, other.toward);
+        let along_x = growth_along(d.x, s.x, e.x, t.x);
+        let along_y = growth_along(d.y, s.y, e.y, t.y);
+        along_x.max(along_y)
+    }
 }
 
-// The pair test for two places and two corners.
+// The pair test for two places and two corners. Corners are their numbers, 1 to 4, of which the rules of choices, their order and sheets speak.
 pub fn growth_of(s: Place, c: u8, t: Place, e: u8) -> Growth
     requires { OnPlan s × Corner c × OnPlan t × Corner e }
     ensures growth { result ≡ growth_of s c t e }
     ensures value { growth_number result ≡ growth_number (growth_of s c t e) }
 {
-    let own = Label {
-        site: s,
-        toward: directions_of(c),
-    };
-    let other = Label {
-        site: t,
-        toward: directions_of(e),
-    };
-    growth(own, other)
+    Label::at(s, c).growth(Label::at(t, e))
 }

@@ -6,6 +6,7 @@ pub mod corner;
 pub mod crowding;
 pub mod fresh;
 pub mod geometry;
+pub mod labels;
 pub mod place;
 pub mod side;
 pub mod sites;

@@ -5,9 +5,9 @@ ghost use Rattle.placing.specs.rules.Answer.{judged_at, side_number};
 ghost use Rattle.placing.specs.calls.Placing.{choice_as, MayPlace};
 ghost use Rattle.placing.specs.deciding.Answer.{answer_of, first_good};
 
-use crate::choice::first_choice;
+use crate::labels::Labels;
 use crate::side::greatest_side;
-use crate::units::{Limits, Place, Side, judged_at};
+use crate::units::{HalfUnits, Limits, Place, Side};
 use crate::way::Way;
 
 // The greatest side of these sites, by a way. Of the lent table the first bytes, one a site, hold marks until the end.
@@ -35,7 +35,12 @@ pub fn choose_corners(
     ensures table { let m = length sites.now * length sites.now in table.new ≡ replicate m 0 ++ drop m table.old }
 {
     let n = sites.len();
-    let corners = first_choice(sites, way, judged_at(side), &mut table[..n]);
+    let labels = Labels {
+        sites,
+        way,
+        side: HalfUnits::from(side),
+    };
+    let corners = labels.first_choice(&mut table[..n]);
     table[..n * n].fill(0);
     corners
 }

@@ -5,8 +5,8 @@ ghost use Rattle.placing.specs.deciding.Answer.{answer_of};
 ghost use Rattle.placing.specs.code.Placed.{MayFind, MayBisect};
 ghost use Rattle.placing.specs.code.Bisect.{NextIs, MayNarrow, Narrowed, SideIs};
 
-use crate::choice::choose;
-use crate::crowding::{Crowding, reaches_of};
+use crate::crowding::Crowding;
+use crate::labels::Labels;
 use crate::units::{HalfUnits, Limits, Place, Side};
 use crate::way::Way;
 
@@ -27,60 +27,61 @@ fn middle(low: HalfUnits, high: HalfUnits) -> HalfUnits
     HalfUnits(low.0 + (high.0 - low.0) / 2)
 }
 
-// Narrows what lies between, to the part in which the greatest side with a good choice is.
-fn narrow(
-    sites: &[Place],
-    way: Way,
-    crowding: Crowding,
-    between: Between,
-    marks: &mut [u8],
-) -> Between
-    requires { MayNarrow sites.now way crowding between marks.old }
-    ensures { Narrowed way sites.now crowding.top.0 between result }
-{
-    let low = between.low;
-    let high = between.high;
-    let side = between.next;
-    if choose(sites, way, crowding, side, marks).is_some() {
-        return Between {
-            low: side,
-            high,
-            next: middle(side, high),
-        };
-    }
-    Between {
-        low,
-        high: side,
-        next: middle(low, side),
-    }
-}
-
 // The side of an answer, by the greatest side that has a good choice: free is judged at 20,001.
 fn side_of(greatest: HalfUnits) -> Side
     ensures { SideIs greatest result }
 {
-    if greatest.below(HalfUnits(Limits::FREE_SIDE)) {
+    if greatest < HalfUnits(Limits::FREE_SIDE) {
         Side::Number(greatest)
     } else {
         Side::Free
     }
 }
 
-// The greatest side by bisection. At 1 corner 1 everywhere is good; the top is tried next, since it often has a good choice.
-fn bisect(sites: &[Place], way: Way, crowding: Crowding, marks: &mut [u8]) -> Side
-    requires { MayBisect sites.now way crowding marks.old }
-    ensures { result ≡ (answer_of way sites.now).side }
-{
-    let top = crowding.top;
-    let mut between = Between {
-        low: HalfUnits(Limits::LEAST_SIDE),
-        high: HalfUnits(top.0 + 1),
-        next: top,
-    };
-    while between.low.below(between.next) {
-        between = narrow(sites, way, crowding, between, marks);
+impl Labels<'_> {
+    // Narrows what lies between, to the part in which the greatest side with a good choice is.
+    fn narrow(&self, crowding: &Crowding, between: Between, marks: &mut [u8]) -> Between
+        requires { MayNarrow self.now crowding.now between marks.old }
+        ensures { Narrowed self.now.way self.now.sites.now crowding.now.top.0 between result }
+    {
+        let low = between.low;
+        let high = between.high;
+        let side = between.next;
+        let labels = Labels {
+            sites: self.sites,
+            way: self.way,
+            side,
+        };
+        if labels.choose(crowding, marks).is_some() {
+            return Between {
+                low: side,
+                high,
+                next: middle(side, high),
+            };
+        }
+        Between {
+            low,
+            high: side,
+            next: middle(low, side),
+        }
     }
-    side_of(between.low)
+
+    // The greatest side by bisection. At 1 corner 1 everywhere is good; the top is tried next, since it often has a good choice.
+    fn bisect(&self, crowding: &Crowding, marks: &mut [u8]) -> Side
+        requires { MayBisect self.now crowding.now marks.old }
+        ensures { result ≡ (answer_of self.now.way self.now.sites.now).side }
+    {
+        let top = crowding.top;
+        let mut between = Between {
+            low: HalfUnits(Limits::LEAST_SIDE),
+            high: HalfUnits(top.0 + 1),
+            next: top,
+        };
+        while between.low < between.next {
+            between = self.narrow(crowding, between, marks);
+        }
+        side_of(between.low)
+    }
 }
 
 // The greatest side of these sites, by a way.
@@ -88,6 +89,11 @@ pub(crate) fn greatest_side(sites: &[Place], way: Way, marks: &mut [u8]) -> Side
     requires { MayFind sites.now marks.old }
     ensures { result ≡ (answer_of way sites.now).side }
 {
-    let crowding = reaches_of(sites, way, HalfUnits(Limits::FREE_SIDE));
-    bisect(sites, way, crowding, marks)
+    let labels = Labels {
+        sites,
+        way,
+        side: HalfUnits(Limits::FREE_SIDE),
+    };
+    let crowding = labels.crowding();
+    labels.bisect(&crowding, marks)
 }

@@ -21,14 +21,16 @@ pub struct Place {
     pub y: Units,
 }
 
-// A side, found or given: a whole number of half units, or free, where no side is too large.
+// A side, found or given: a whole number of half units, or free, where no side is too large. Free is an answer of the rules and no absence,
+// so this is no Option.
 #[derive(Clone, Copy, PartialEq, Eq)]
 pub enum Side {
     Number(HalfUnits),
     Free,
 }
 
-// How far two labels grow: up to a side, the greatest at which they do not meet; or they never meet, which is further than any side.
+// How far two labels grow: up to a side, the greatest at which they do not meet; or they never meet, which is further than any side, and
+// no absence of an answer.
 #[derive(Clone, Copy, PartialEq, Eq, PartialOrd, Ord)]
 pub enum Growth {
     UpTo(HalfUnits),
@@ -36,12 +38,14 @@ pub enum Growth {
 }
 
 // The side at which a side is judged: free at 20,001.
-pub(crate) fn judged_at(side: Side) -> HalfUnits
-    ensures { result.0 ≡ judged_at side }
-{
-    match side {
-        Side::Number(h) => h,
-        Side::Free => HalfUnits(Limits::FREE_SIDE),
+impl From<Side> for HalfUnits {
+    ghost from_gives = { λ side judged. judged.0 ≡ judged_at side };
+
+    fn from(side: Side) -> HalfUnits {
+        match side {
+            Side::Number(h) => h,
+            Side::Free => HalfUnits(Limits::FREE_SIDE),
+        }
     }
 }
 
@@ -67,7 +71,7 @@ impl Limits {
 }
 
 impl Units {
-    // The one conversion: a unit is two half units.
+    // The one conversion: a unit is two half units. It is no From, since it asks for a coordinate: twice any number would not fit.
     pub(crate) fn in_half_units(self) -> HalfUnits
         requires { self.0 ≤ greatest_coordinate }
         ensures { result.0 ≡ in_half_units self.0 }
@@ -76,26 +80,7 @@ impl Units {
     }
 }
 
-// Half units are compared with half units only, by these methods.
 impl HalfUnits {
-    pub(crate) fn below(self, other: HalfUnits) -> bool
-        ensures { Decides result (self.0 < other.0) }
-    {
-        self.0 < other.0
-    }
-
-    pub(crate) fn at_most(self, other: HalfUnits) -> bool
-        ensures { Decides result (self.0 ≤ other.0) }
-    {
-        self.0 <= other.0
-    }
-
-    pub(crate) fn larger(self, other: HalfUnits) -> HalfUnits
-        ensures { result.0 ≡ max self.0 other.0 }
-    {
-        if self.0 <= other.0 { other } else { self }
-    }
-
     // Two labels meet at the sides that exceed their growth.
     pub(crate) fn exceeds(self, growth: Growth) -> bool
         ensures { Decides result (Exceeds self.0 1 growth) }

@@ -1,7 +1,7 @@
 -- What the page of demands promises of the bytes of a sheet, and so of an output: the theorems that rest on what each way guarantees, demand 3
 -- and what stands for it above the spot. They stand here and not in specs/, so that a wrong guarantee is refused where it is not met.
 -- Assumes nothing.
-use Rattle.std.specs.Prelude.{true, ◌≡◌, refl, List, ℕ, ◌*◌, ◌≤◌, ◌<◌, length, drop, Ok}
+use Rattle.std.specs.Prelude.{true, ◌≡◌, refl, List, ◌++◌, ℕ, ◌*◌, ◌≤◌, ◌<◌, length, drop, Ok}
 use Rattle.std.proofs.Common.{sym, ap, ◌∙◌, subst, arith}
 use Rattle.std.proofs.Math.Option.{some}
 use Rattle.placing.specs.declared.units.Side.{Side}
@@ -19,7 +19,7 @@ use Rattle.plan.specs.Demands.{Guarantee, Accepts, RightSheet, PlacedSheet, Shee
 use Rattle.plan.specs.theorems.Reading.{reads-are, read-listed, read-list}
 use Rattle.plan.specs.theorems.Sheet.{Lined, chosen-lined, answer-listed}
 use Rattle.placing.specs.theorems.Answer.{answer-is}
-use Rattle.plan.specs.rules.Refusal.{Result, accepted, after}
+use Rattle.plan.specs.rules.Refusal.{Result, accepted}
 use Rattle.plan.specs.rules.Calls.{filled_with}
 use Rattle.plan.specs.calls.Plan.{sites_in, Valid}
 use Rattle.plan.specs.calls.Answers.{sheet_for}
@@ -31,7 +31,7 @@ use Rattle.plan.specs.declared.plan.Plan.{Plan}
 use Rattle.plan.specs.theorems.Plan.{valid-holding, valid-for}
 use Rattle.plan.specs.theorems.Output.{ToPlace, not_placed, to_be_placed, text-to-place, prints-found, ToPlaceAt, not_placed_at, is_placed_at, text-to-place-at}
 use Rattle.plan.specs.code.Put.{Put}
-use Rattle.plan.specs.code.PutLaws.{put_same, put_front, put-taken}
+use Rattle.plan.specs.code.PutLaws.{put-taken}
 use Rattle.plan.specs.code.Filling.{WritePromised, promised, placed-some}
 
 -- A sheet with the answer has what its way guarantees: at sides greater than twice its number every rival has two labels that meet; above
@@ -136,17 +136,17 @@ output-answered-at way side text = by-sites (text-to-place-at way side text)
 
 -- ---- writing
 
-module _ {plan : Plan} (valid : Valid plan) (is : plan.placed ≡ true) {buffer : List ℕ} where
+module _ {plan : Plan} (valid : Valid plan) (is-placed : plan.placed ≡ true) {buffer : List ℕ} where
   -- The sheet was made in an array of its own, and its bytes are copied.
-  pub write-copied : {scratch made after : List ℕ} {n m : ℕ} → Put scratch 0 (sheet_for plan) n made
-      → length (sheet_for plan) ≤ length scratch → n ≤ length buffer → Put buffer 0 (take n made) m after
-      → WritePromised plan buffer (Ok n) after
+  pub write-copied : {scratch made copy : List ℕ} {n : ℕ} → Put scratch 0 (sheet_for plan) n made → length (sheet_for plan) ≤ length scratch
+      → n ≤ length buffer → copy ≡ take n made → WritePromised plan buffer (Ok n) (copy ++ drop n buffer)
   unfolding sites_in sheet_at chosen_at
-  write-copied {after = after} {n} put fits room copy =
+  write-copied {copy = copy} {n} put fits room is =
       let sheet = sheet_for plan in
       let size : length sheet ≡ n = omega (arith, put.next_is) in
-      let front : after ≡ filled_with sheet buffer = put_front (put_same copy (put-taken put fits)) (omega arith) in
-      let taken : take n after ≡ sheet = ap (take n) front ∙ take_at sheet (drop (length sheet) buffer) n size in
-      promised plan buffer (accepted n) (rw (is, le-ltb (length buffer) (length sheet) (omega arith)) (ap accepted size)) front
+      let same : copy ≡ sheet = is ∙ put-taken put fits in
+      let front : copy ++ drop n buffer ≡ filled_with sheet buffer = λ k. same k ++ drop (sym size k) buffer in
+      let taken : take n (copy ++ drop n buffer) ≡ sheet = ap (take n) front ∙ take_at sheet (drop (length sheet) buffer) n size in
+      promised plan buffer (accepted n) (rw (is-placed, le-ltb (length buffer) (length sheet) (omega arith)) (ap accepted size)) front
       (subst (PlacedSheet plan.way (sites_in plan) plan.side) (sym taken)
-      (sheet-placed (sites_in plan) (valid-holding valid).listed (placed-some valid is) (valid-for valid is)))
+      (sheet-placed (sites_in plan) (valid-holding valid).listed (placed-some valid is-placed) (valid-for valid is-placed)))

@@ -16,7 +16,7 @@ ghost use Rattle.plan.specs.Demands.{EnterTold, FindTold, ChooseTold, SideTold, 
 
 use crate::name::name_from;
 use crate::number::{coordinate_at, place_at};
-use crate::plan::{Placement, Plan};
+use crate::plan::{Placement, Plan, SiteRead};
 use crate::refusal::Refusal;
 use placing::place::{choose_corners, find_side};
 use placing::units::{Limits, Side};
@@ -41,12 +41,7 @@ pub fn is_side(side: Side) -> bool
     ensures { result ≡ is_side side }
 {
     match side {
-        Side::Number(h) => {
-            if h.0 < Limits::LEAST_SIDE {
-                return false;
-            }
-            h.0 <= Limits::GREATEST_SIDE
-        }
+        Side::Number(h) => (Limits::LEAST_SIDE..=Limits::GREATEST_SIDE).contains(&h.0),
         Side::Free => true,
     }
 }
@@ -57,9 +52,11 @@ impl Plan {
         ensures answer { record { outcome = result; plan = self.new } ≡ entered_in self.old name.now x y }
         ensures told { EnterTold self.old name.now x y (record { outcome = result; plan = self.new }) }
     {
-        let site_name = name_from(name);
-        let site_place = place_at(coordinate_at(x), coordinate_at(y));
-        self.enter_read(site_name, site_place)
+        let place = place_at(coordinate_at(x), coordinate_at(y));
+        self.enter_read(SiteRead {
+            name: name_from(name),
+            place,
+        })
     }
 
     // Finds the greatest side of the plan's sites by a way: tests 8, 11.
@@ -98,8 +95,7 @@ impl Plan {
         ensures value { side_carried result
             ≡ carried_at (number_by (side_tests self.now.placed)) (side_number (answer_for self.now).side) }
     {
-        let placement = self.placement.ok_or(Refusal::NotPlaced)?;
-        Ok(placement.side)
+        Ok(self.placement.ok_or(Refusal::NotPlaced)?.side)
     }
 
     // The corner of site number `i`: tests 9, 6.

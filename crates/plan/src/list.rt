@@ -1,34 +1,16 @@
 // Reading a list: one site a line, name, x, y, parted by one tab each.
-ghost use Rattle.std.specs.Prelude.{◌≡◌, [], ◌∷◌, ◌≤◌, length};
-ghost use Rattle.plan.specs.rules.Refusal.{first_refusal};
+ghost use Rattle.std.specs.Prelude.{◌≡◌, ◌≤◌, ◌<◌, length};
 ghost use Rattle.plan.specs.rules.Text.{fields_of};
-ghost use Rattle.plan.specs.calls.Plan.{sites_in, Valid};
 ghost use Rattle.plan.specs.calls.Answers.{started, read_from};
 ghost use Rattle.plan.specs.Demands.{ReadTold, StopTold};
-ghost use Rattle.plan.specs.code.Entering.{NameFits, outcome_of};
-ghost use Rattle.plan.specs.code.Line.{LineEnds, FieldEnd, LineReads, NoFields, read_tests};
+ghost use Rattle.plan.specs.code.Line.{LineEnds, LineReads, LineEntered};
 ghost use Rattle.plan.specs.code.Reading.{LinesReads};
 
 use crate::limits::TextLimits;
-use crate::name::{NameRead, name_from};
-use crate::number::{Coordinate, PlaceRead, coordinate_from, place_at};
-use crate::plan::Plan;
+use crate::name::name_from;
+use crate::number::{coordinate_from, place_at};
+use crate::plan::{Plan, SiteRead};
 use crate::refusal::Refusal;
-
-// Where a line ends: the place of its line feed, if it has one in time.
-#[derive(Clone, Copy)]
-pub(crate) enum LineEnd {
-    At(usize),
-    Missing,
-}
-
-// What is read of a line: whether it has three fields, and the name and the place that they write.
-#[derive(Clone, Copy)]
-pub(crate) struct LineRead {
-    pub three: bool,
-    pub name: NameRead,
-    pub place: PlaceRead,
-}
 
 // The line at which reading a list stops: its number, counted from 1, where it starts, and why it is refused.
 #[derive(Clone, Copy)]
@@ -39,92 +21,42 @@ pub struct RefusedLine {
 }
 
 // The end of the line that starts at `at`: a line feed behind at most the bytes of a line.
-fn line_end(text: &[u8], at: usize) -> LineEnd
+fn line_end(text: &[u8], at: usize) -> Option<usize>
     requires { at ≤ length text.now }
     ensures { LineEnds text.now at result }
 {
-    for i in 0..TextLimits::LINE + 1 {
-        if text.len() - at <= i {
-            return LineEnd::Missing;
-        }
-        if text[at + i] == b'\n' {
-            return LineEnd::At(at + i);
-        }
-    }
-    LineEnd::Missing
+    let mut bytes = text[at..].iter().take(TextLimits::LINE + 1);
+    let n = bytes.position(|b| *b == b'\n')?;
+    Some(at + n)
 }
 
-// The first tab from `at` on, or the line's length.
-fn field_end(line: &[u8], at: usize) -> usize
-    requires { at ≤ length line.now }
-    ensures { FieldEnd line.now at result }
-{
-    let mut k = at;
-    while k < line.len() {
-        if line[k] == b'\t' {
-            return k;
-        }
-        k += 1;
-    }
-    k
-}
-
-// Reads three fields.
-fn read_fields(name: &[u8], x: &[u8], y: &[u8]) -> LineRead
-    ensures { LineReads (name.now ∷ x.now ∷ y.now ∷ []) result }
-{
-    let site_name = name_from(name);
-    let site_place = place_at(coordinate_from(x), coordinate_from(y));
-    LineRead {
-        three: true,
-        name: site_name,
-        place: site_place,
-    }
-}
-
-// What is read of a line of other than three fields.
-fn no_fields() -> LineRead
-    ensures { NoFields result }
-{
-    LineRead {
-        three: false,
-        name: NameRead::none(),
-        place: place_at(Coordinate::Nowhere, Coordinate::Nowhere),
-    }
-}
-
-// Reads a line, without its line feed.
-fn read_line(line: &[u8]) -> LineRead
+// What a line writes, without its line feed, if it has three fields.
+fn read_line(line: &[u8]) -> Option<SiteRead>
     ensures { LineReads (fields_of line.now) result }
 {
-    let n = line.len();
-    let first = field_end(line, 0);
-    if first == n {
-        return no_fields();
+    let mut fields = line.split(|b| *b == b'\t');
+    let name = fields.next()?;
+    let x = fields.next()?;
+    let y = fields.next()?;
+    if fields.next().is_some() {
+        return None;
     }
-    let from_x = first + 1;
-    let second = field_end(line, from_x);
-    if second == n {
-        return no_fields();
-    }
-    let from_y = second + 1;
-    let third = field_end(line, from_y);
-    if third != n {
-        return no_fields();
-    }
-    read_fields(&line[..first], &line[from_x..second], &line[from_y..])
+    Some(SiteRead {
+        name: name_from(name),
+        place: place_at(coordinate_from(x), coordinate_from(y)),
+    })
 }
 
 impl Plan {
-    // What the tests of entering a line come to: 1 for its fields, then theirs.
-    fn line_outcome(&self, line: LineRead) -> Result<(), Refusal>
-        requires { NameFits line.name }
-        ensures { result ≡ outcome_of (first_refusal (read_tests (sites_in self.now) line)) }
+    // Enters the site of the line that starts at `at`, and gives the line's end: test 1, then those of entering.
+    fn enter_line(&mut self, text: &[u8], at: usize) -> Result<usize, Refusal>
+        requires { at < length text.now }
+        ensures { LineEntered text.now at self.old result self.new }
     {
-        if !line.three {
-            return Err(Refusal::BadLine);
-        }
-        self.enter_outcome(line.name, line.place)
+        let end = line_end(text, at).ok_or(Refusal::BadLine)?;
+        let site = read_line(&text[at..end]).ok_or(Refusal::BadLine)?;
+        self.enter_read(site)?;
+        Ok(end)
     }
 
     // Reads line after line into an empty plan, up to the first refused line or the text's end.
@@ -135,16 +67,10 @@ impl Plan {
         let mut at = 0;
         while at < text.len() {
             let number = self.count() + 1;
-            let LineEnd::At(end) = line_end(text, at) else {
-                let why = Refusal::BadLine;
-                return Err(RefusedLine { number, at, why });
-            };
-            let line = read_line(&text[at..end]);
-            if let Err(why) = self.line_outcome(line) {
-                return Err(RefusedLine { number, at, why });
+            match self.enter_line(text, at) {
+                Ok(end) => at = end + 1,
+                Err(why) => return Err(RefusedLine { number, at, why }),
             }
-            self.add(line.name.name, line.place.place);
-            at = end + 1;
         }
         Ok(())
     }

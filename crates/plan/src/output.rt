@@ -25,7 +25,7 @@ fn put_refusal(out: &mut [u8], why: Refusal) -> usize
     ensures { Put out.old 0 (refusal_line (number_of why)) result out.new }
 {
     let number = u8::from(why);
-    let word = put_bytes(out, 0, b"refused\t", 8);
+    let word = put_bytes(out, 0, b"refused\t");
     let digits = put_decimal(out, word, number as u32);
     put_byte(out, digits, b'\n')
 }

@@ -1,18 +1,14 @@
 // A plan: the sites of one level in list order and, once it is placed, the way, its side and corners.
-ghost use Rattle.std.specs.Prelude.{◌≡◌, ◌≤◌, [], ◌∷◌, ◌++◌};
-ghost use Rattle.placing.specs.rules.Units.{most_sites};
-ghost use Rattle.placing.specs.deciding.Tests.{same_place};
-ghost use Rattle.plan.specs.rules.Refusal.{first_refusal};
-ghost use Rattle.plan.specs.rules.List.{Listed, enter_tests, entered};
-ghost use Rattle.plan.specs.calls.Plan.{unplaced_plan, name_held, sites_in, Valid};
+ghost use Rattle.std.specs.Prelude.{◌≡◌, [], ◌∷◌, ◌++◌};
+ghost use Rattle.plan.specs.rules.List.{Listed, entered};
+ghost use Rattle.plan.specs.calls.Plan.{unplaced_plan, sites_in, Valid};
 ghost use Rattle.plan.specs.calls.Answers.{started, handed};
 ghost use Rattle.plan.specs.code.NameRead.{Padded};
 ghost use Rattle.plan.specs.code.PlanLaws.{one_more};
-ghost use Rattle.plan.specs.code.Taken.{site_of, PaddedNames, names_taken, places_taken};
-ghost use Rattle.plan.specs.code.Entering.{NameFits, PlaceFits, wanted_read, outcome_of, rows};
+ghost use Rattle.plan.specs.code.Taken.{site_of};
+ghost use Rattle.plan.specs.code.Entering.{SiteFits, wanted_read, admitted};
 
-use crate::name::{Name, NameRead, same_name};
-use crate::number::PlaceRead;
+use crate::name::Name;
 use crate::refusal::Refusal;
 use placing::units::{Limits, Place, Side, Units};
 use placing::way::Way;
@@ -33,6 +29,13 @@ pub struct Plan {
     pub(crate) names: [Name; Limits::SITES],
     pub(crate) places: [Place; Limits::SITES],
     pub(crate) placement: Option<Placement>,
+}
+
+// A name and a place to be entered, as they were read: none where they are not by the rules.
+#[derive(Clone, Copy)]
+pub(crate) struct SiteRead {
+    pub name: Option<Name>,
+    pub place: Option<Place>,
 }
 
 // Every plan is one that the calls hand back.
@@ -69,16 +72,25 @@ impl Plan {
         }
     }
 
-    // What the tests of entering a name and a place, as they were read, come to.
-    pub(crate) fn enter_outcome(&self, name: NameRead, place: PlaceRead) -> Result<(), Refusal>
-        requires { NameFits name }
-        ensures outcome { result ≡ outcome_of (first_refusal (enter_tests (sites_in self.now) (wanted_read name place))) }
+    // The name and the place that were read, where they can be entered: tests 2, 3, 7, 4, 5.
+    fn admit(&self, site: SiteRead) -> Result<(Name, Place), Refusal>
+        requires { SiteFits site }
+        ensures answer { result ≡ admitted (sites_in self.now) site }
         ensures valid { Valid self.now }
     {
         let n = self.count;
-        let named = name_taken(self.names, n, name.name);
-        let placed = place_taken(self.places, n, place.place);
-        first_failed(!name.ok, !place.ok, n >= Limits::SITES, named, placed)
+        let name = site.name.ok_or(Refusal::BadName)?;
+        let place = site.place.ok_or(Refusal::BadNumber)?;
+        if n >= Limits::SITES {
+            return Err(Refusal::Full);
+        }
+        if self.names[..n].contains(&name) {
+            return Err(Refusal::NameTaken);
+        }
+        if self.places[..n].contains(&place) {
+            return Err(Refusal::PlaceTaken);
+        }
+        Ok((name, place))
     }
 
     // One site more, at the end. The plan is not placed afterwards.
@@ -92,80 +104,14 @@ impl Plan {
         self.placement = None;
     }
 
-    // One site more, whose name and place were read.
-    pub(crate) fn enter_read(&mut self, name: NameRead, place: PlaceRead) -> Result<(), Refusal>
-        requires { NameFits name × PlaceFits place }
-        ensures answer { record { outcome = result; plan = self.new } ≡ handed unplaced_plan self.old (entered (sites_in self.old) (wanted_read name place)) }
+    // One site more, which was read.
+    pub(crate) fn enter_read(&mut self, site: SiteRead) -> Result<(), Refusal>
+        requires { SiteFits site }
+        ensures answer { record { outcome = result; plan = self.new } ≡ handed unplaced_plan self.old (entered (sites_in self.old) (wanted_read site)) }
         ensures valid { Valid self.new }
     {
-        self.enter_outcome(name, place)?;
-        self.add(name.name, place.place);
+        let (name, place) = self.admit(site)?;
+        self.add(name, place);
         Ok(())
     }
-}
-
-// Whether one of the first `n` names is this one.
-fn name_taken(names: [Name; Limits::SITES], n: usize, name: Name) -> bool
-    requires { (n ≤ most_sites) × PaddedNames n names × Padded name }
-    ensures { result ≡ names_taken n names (name_held name) }
-{
-    for i in 0..n {
-        let other = names[i];
-        if same_name(other, name) {
-            return true;
-        }
-    }
-    false
-}
-
-// Whether two places are the same.
-fn same_place(a: Place, b: Place) -> bool
-    ensures { result ≡ same_place a b }
-{
-    if a.x.0 != b.x.0 {
-        return false;
-    }
-    a.y.0 == b.y.0
-}
-
-// Whether one of the first `n` places is this one.
-fn place_taken(places: [Place; Limits::SITES], n: usize, place: Place) -> bool
-    requires { n ≤ most_sites }
-    ensures { result ≡ places_taken n places place }
-{
-    for i in 0..n {
-        let other = places[i];
-        if same_place(other, place) {
-            return true;
-        }
-    }
-    false
-}
-
-// The order of document 01's tests, 2, 3, 7, 4, 5, over which of them fail.
-fn first_failed(
-    unnamed: bool,
-    outside: bool,
-    full: bool,
-    named: bool,
-    placed: bool,
-) -> Result<(), Refusal>
-    ensures { result ≡ outcome_of (first_refusal (rows unnamed outside full named placed)) }
-{
-    if unnamed {
-        return Err(Refusal::BadName);
-    }
-    if outside {
-        return Err(Refusal::BadNumber);
-    }
-    if full {
-        return Err(Refusal::Full);
-    }
-    if named {
-        return Err(Refusal::NameTaken);
-    }
-    if placed {
-        return Err(Refusal::PlaceTaken);
-    }
-    Ok(())
 }

@@ -16,7 +16,7 @@ ghost use Rattle.plan.specs.Demands.{SheetWritten, WriteTold};
 use crate::limits::TextLimits;
 use crate::name::Name;
 use crate::plan::Plan;
-use crate::put::{put_byte, put_bytes, put_decimal, put_name};
+use crate::put::{put_byte, put_bytes, put_decimal};
 use crate::refusal::Refusal;
 use placing::units::{Place, Side};
 
@@ -25,10 +25,10 @@ fn put_side(out: &mut [u8], side: Side) -> usize
     requires { SideSmall side × (longest_side_line ≤ length out.old) }
     ensures { Put out.old 0 (side_line_ended side) result out.new }
 {
-    let word = put_bytes(out, 0, b"side\t", 5);
+    let word = put_bytes(out, 0, b"side\t");
     let end = match side {
         Side::Number(h) => put_decimal(out, word, h.0),
-        Side::Free => put_bytes(out, word, b"free", 4),
+        Side::Free => put_bytes(out, word, b"free"),
     };
     put_byte(out, end, b'\n')
 }
@@ -38,7 +38,7 @@ fn put_site(out: &mut [u8], at: usize, name: Name, place: Place, corner: u8) -> 
     requires { (name.len ≤ most_name_bytes) × OnPlan place × Corner corner × (at + longest_site_line ≤ length out.old) }
     ensures { Put out.old at (site_line_ended (site_of name place) corner) result out.new }
 {
-    let after_name = put_name(out, at, name);
+    let after_name = put_bytes(out, at, name.text());
     let from_x = put_byte(out, after_name, b'\t');
     let after_x = put_decimal(out, from_x, place.x.0);
     let from_y = put_byte(out, after_x, b'\t');
@@ -80,7 +80,7 @@ impl Plan {
         if buffer.len() < n {
             return Err(Refusal::ShortBuffer);
         }
-        put_bytes(buffer, 0, &sheet, n);
+        buffer[..n].copy_from_slice(&sheet[..n]);
         Ok(n)
     }
 }

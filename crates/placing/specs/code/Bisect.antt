@@ -4,6 +4,7 @@ use Rattle.std.specs.Prelude.{◌≡◌, List, ℕ, suc, ◌+◌, ◌-◌, ◌�
 use Rattle.std.proofs.Common.{sym, subst, ◌∙◌, arith}
 use Rattle.std.proofs.Math.Decide.{ℕ_discrete, dec_le}
 use Rattle.placing.specs.declared.crowding.Crowding.{Crowding}
+use Rattle.placing.specs.declared.labels.Labels.{Labels}
 use Rattle.placing.specs.declared.side.Between.{Between}
 use Rattle.placing.specs.declared.units.HalfUnits.{HalfUnits}
 use Rattle.placing.specs.declared.units.Place.{Place}
@@ -15,8 +16,8 @@ use Rattle.placing.specs.rules.Choice.{Good, SomeGood}
 use Rattle.placing.specs.deciding.Answer.{answer_of}
 use Rattle.placing.specs.theorems.Choice.{good-smaller, good-one-exists}
 use Rattle.placing.specs.theorems.Answer.{NoneGood, side-found, side-free}
-use Rattle.placing.specs.code.Sites.{Held}
-use Rattle.placing.specs.code.Crowding.{judged_free, NoneFrom, CrowdingIs}
+use Rattle.placing.specs.code.Crowding.{NoneFrom, CrowdingIs}
+use Rattle.placing.specs.code.Labels.{count_of}
 
 -- The side to try next between two: below the upper one, and above the lower one unless they are one apart.
 pub record NextIs (low high next : ℕ) : Type 0 where
@@ -33,11 +34,10 @@ pub record BetweenIs (way : Way) (ps : List Place) (top : ℕ) (between : Betwee
   pub next_is : NextIs between.low.0 between.high.0 between.next.0
 
 -- Narrowing what lies between two sides where one is left to try.
-pub record MayNarrow (sites : List Place) (way : Way) (crowding : Crowding) (between : Between) (marks : List ℕ) : Type 0 where
-  pub held : Held sites judged_free
-  pub room : length sites ≤ length marks
-  pub crowding_is : CrowdingIs way free_side sites crowding
-  pub between_is : BetweenIs way sites crowding.top.0 between
+pub record MayNarrow (labels : Labels) (crowding : Crowding) (between : Between) (marks : List ℕ) : Type 0 where
+  pub room : count_of labels ≤ length marks
+  pub crowding_is : CrowdingIs labels.way free_side labels.sites.now crowding
+  pub between_is : BetweenIs labels.way labels.sites.now crowding.top.0 between
   pub left : between.low.0 < between.next.0
 
 -- What lies between is less than before.

@@ -3,9 +3,8 @@
 use Rattle.std.specs.Prelude.{◌≡◌, Bool, true, false, List, ◌≢◌, ◌⊎◌, ℕ, ◌<◌}
 use Rattle.std.proofs.Common.{sym, subst, ◌∙◌, true≢false, inl, inr, ⊎_elim, lt_of_lt_of_le, arith}
 use Rattle.std.proofs.Math.Decide.{ℕ_discrete}
-use Rattle.placing.specs.declared.units.HalfUnits.{HalfUnits}
-use Rattle.placing.specs.declared.units.Place.{Place}
-use Rattle.placing.specs.declared.way.Way.{Way}
+use Rattle.placing.specs.declared.fresh.State.{State}
+use Rattle.placing.specs.declared.labels.Labels.{Labels}
 use Rattle.placing.specs.declared.way.Way.TheVariants.{Usual, Above}
 use Rattle.placing.specs.rules.Corner.{Corner}
 use Rattle.placing.specs.rules.Choice.{corner_at}
@@ -13,7 +12,7 @@ use Rattle.placing.specs.search.Problem.{Problem}
 use Rattle.placing.specs.search.Rows.{row_of, open-corner}
 use Rattle.placing.specs.search.State.{TwoOpen, Only, Every, CarriedTo, Carried, Stuck}
 use Rattle.placing.specs.search.Trial.{zero-before, two-still}
-use Rattle.placing.specs.code.Labels.{LookedAt, equal, low, labels}
+use Rattle.placing.specs.code.Labels.{LookedAt, equal, low, problem_of}
 use Rattle.placing.specs.code.Asks.{MayCarry, MayCarryOut}
 use Rattle.placing.specs.code.Steps.{Lone, AllSettled, CarriedOut}
 
@@ -91,29 +90,27 @@ stuck-twice first stuck =
     }
 
 -- Where the second round follows a first one that went through, both are one.
-pub carried-twice : {P : Problem} {One Two : ℕ → Type 0} {opens decided opens₁ decided₁ opens₂ decided₂ : List ℕ} {k : ℕ} {ok : Bool}
-    → Carried P One opens decided k opens₁ decided₁ → CarriedOut P Two opens₁ decided₁ k ok opens₂ decided₂
-    → CarriedOut P (Either One Two) opens decided k ok opens₂ decided₂
+pub carried-twice : {P : Problem} {One Two : ℕ → Type 0} {state state₁ state₂ : State} {k : ℕ} {ok : Bool}
+    → Carried P One state.opens state.decided k state₁.opens state₁.decided → CarriedOut P Two state₁ k ok state₂
+    → CarriedOut P (Either One Two) state k ok state₂
 carried-twice first second =
     record {
-      sizes = second.sizes;
       carried = λ went. all-twice first.own_decided first (second.carried went);
       stuck = λ failed. stuck-twice first (second.stuck failed);
     }
 
 -- Where a round fails, more corners to look at change nothing.
-pub carried-stuck-at : {P : Problem} {One Two : ℕ → Type 0} {opens decided opens' decided' : List ℕ} {k : ℕ} {ok : Bool} → ok ≡ false
-    → CarriedOut P One opens decided k ok opens' decided' → CarriedOut P Two opens decided k false opens' decided'
+pub carried-stuck-at : {P : Problem} {One Two : ℕ → Type 0} {state state' : State} {k : ℕ} {ok : Bool} → ok ≡ false
+    → CarriedOut P One state k ok state' → CarriedOut P Two state k false state'
 carried-stuck-at failed out =
-    record { sizes = out.sizes; carried = λ went. absurd (true≢false (sym went)); stuck = λ no_ok. out.stuck failed }
+    record { carried = λ went. absurd (true≢false (sym went)); stuck = λ no_ok. out.stuck failed }
 
 -- Where every open corner in conflict is looked at, the decision is carried out.
-pub carried-every : {P : Problem} {Looked : ℕ → Type 0} {opens decided opens' decided' : List ℕ} {k : ℕ} {ok : Bool}
-    → ((j e : ℕ) → j < P.n → j ≢ k → row_of opens j e ≡ 1 → P.Conflict k (corner_at decided k) j e → Looked e)
-    → CarriedOut P Looked opens decided k ok opens' decided' → CarriedOut P Every opens decided k ok opens' decided'
+pub carried-every : {P : Problem} {Looked : ℕ → Type 0} {state state' : State} {k : ℕ} {ok : Bool}
+    → ((j e : ℕ) → j < P.n → j ≢ k → row_of state.opens j e ≡ 1 → P.Conflict k (corner_at state.decided k) j e → Looked e)
+    → CarriedOut P Looked state k ok state' → CarriedOut P Every state k ok state'
 carried-every looked out =
     record {
-      sizes = out.sizes;
       carried = λ went. record {
         others = λ j listed different.
             let to = (out.carried went).others j listed different in
@@ -135,23 +132,23 @@ carried-every looked out =
     }
 
 -- After a round the decided corner of every decided site alone is open, as it was before.
-settled-after : {P : Problem} {Looked : ℕ → Type 0} {opens decided opens₁ decided₁ : List ℕ} {k : ℕ} → k < P.n
-    → AllSettled P.n opens decided → Carried P Looked opens decided k opens₁ decided₁ → AllSettled P.n opens₁ decided₁
-settled-after {P} {Looked} {opens} {decided} {opens₁} {decided₁} {k} k-listed before round =
+settled-after : {P : Problem} {Looked : ℕ → Type 0} {state state₁ : State} {k : ℕ} → k < P.n
+    → AllSettled P.n state → Carried P Looked state.opens state.decided k state₁.opens state₁.decided → AllSettled P.n state₁
+settled-after {P} {Looked} {state} {state₁} {k} k-listed before round =
     record { all_settled = λ j listed. record { settled = λ d. settled j listed d (ℕ_discrete j k) } }
   where
     -- Site k is as it was;
-    own : corner_at decided₁ k ≢ 0 → Lone (row_of opens₁ k) (corner_at decided₁ k)
+    own : corner_at state₁.decided k ≢ 0 → Lone (row_of state₁.opens k) (corner_at state₁.decided k)
     own d =
         let lone = (before.all_settled k k-listed).settled (λ zero. d (round.own_decided ∙ zero)) in
         record {
-          is_open = round.own_open (corner_at decided₁ k) ∙ rw round.own_decided lone.is_open;
+          is_open = round.own_open (corner_at state₁.decided k) ∙ rw round.own_decided lone.is_open;
           alone = λ e still. lone.alone e (sym (round.own_open e) ∙ still) ∙ sym round.own_decided;
         }
 
     -- another that was decided keeps its corner, and one that was not has its last corner decided.
-    other : (j : ℕ) → j < P.n → j ≢ k → corner_at decided₁ j ≢ 0 → Dec (corner_at decided j ≡ 0)
-        → Lone (row_of opens₁ j) (corner_at decided₁ j)
+    other : (j : ℕ) → j < P.n → j ≢ k → corner_at state₁.decided j ≢ 0 → Dec (corner_at state.decided j ≡ 0)
+        → Lone (row_of state₁.opens j) (corner_at state₁.decided j)
     other j listed different d (yes free) =
         let to = round.others j listed different in
         record { is_open = to.decides_open free d; alone = λ e. to.decides_alone e free d }
@@ -163,20 +160,18 @@ settled-after {P} {Looked} {opens} {decided} {opens₁} {decided₁} {k} k-liste
           alone = λ e still. lone.alone e (to.closes e still) ∙ sym (to.stays_decided taken);
         }
 
-    settled : (j : ℕ) → j < P.n → corner_at decided₁ j ≢ 0 → Dec (j ≡ k) → Lone (row_of opens₁ j) (corner_at decided₁ j)
+    settled : (j : ℕ) → j < P.n → corner_at state₁.decided j ≢ 0 → Dec (j ≡ k) → Lone (row_of state₁.opens j) (corner_at state₁.decided j)
     settled j listed d (yes same) = rw same (own (rw same at d))
-    settled j listed d (no different) = other j listed different d (ℕ_discrete (corner_at decided j) 0)
+    settled j listed d (no different) = other j listed different d (ℕ_discrete (corner_at state.decided j) 0)
 
 -- So after a round the decision may be carried to other corners.
-pub may-carry-again : {sites : List Place} {way : Way} {side : HalfUnits} {Looked : ℕ → Type 0} {opens decided opens₁ decided₁ : List ℕ}
-    {k from : ℕ} {ok : Bool} → MayCarry sites side opens decided k from
-    → CarriedOut (labels way side.0 sites) Looked opens decided k ok opens₁ decided₁ → ok ≡ true
-    → MayCarry sites side opens₁ decided₁ k from
+pub may-carry-again : {labels : Labels} {Looked : ℕ → Type 0} {state state₁ : State}
+    {k from : ℕ} {ok : Bool} → MayCarry labels state k from
+    → CarriedOut (problem_of labels) Looked state k ok state₁ → ok ≡ true
+    → MayCarry labels state₁ k from
 may-carry-again may out went =
     let round = out.carried went in
     record {
-      held = may.held;
-      sizes = out.sizes;
       listed = may.listed;
       corner = rw round.own_decided may.corner;
       settled = settled-after may.listed may.settled round;
@@ -188,30 +183,30 @@ may-carry-again may out went =
       };
     }
 
-module _ {sites : List Place} {way : Way} {side : HalfUnits} {opens decided : List ℕ} {k from : ℕ}
-    (may : MayCarryOut sites way side opens decided k from) where
+module _ {labels : Labels} {state : State} {k from : ℕ}
+    (may : MayCarryOut labels state k from) where
   -- By the usual way one round over the decided corner carries the decision out,
-  pub carried-usual : {ok : Bool} {opens' decided' : List ℕ} → way ≡ Usual
-      → CarriedOut (labels way side.0 sites) (Only (corner_at decided k)) opens decided k ok opens' decided'
-      → CarriedOut (labels way side.0 sites) Every opens decided k ok opens' decided'
+  pub carried-usual : {ok : Bool} {state' : State} → labels.way ≡ Usual
+      → CarriedOut (problem_of labels) (Only (corner_at state.decided k)) state k ok state'
+      → CarriedOut (problem_of labels) Every state k ok state'
   carried-usual is = carried-every (λ j e listed different is_open meets.
-      same (subst (λ w. LookedAt w (corner_at decided k) e) is ((may.met_looked j listed different).looked e is_open meets)))
+      same (subst (λ w. LookedAt w (corner_at state.decided k) e) is ((may.met_looked j listed different).looked e is_open meets)))
     where
-      same : {e : ℕ} → LookedAt Usual (corner_at decided k) e → Only (corner_at decided k) e
+      same : {e : ℕ} → LookedAt Usual (corner_at state.decided k) e → Only (corner_at state.decided k) e
       same (equal at) = at
 
   -- and above the spot two rounds do, over corner 1 and over corner 2.
-  pub carried-above : {went ok : Bool} {opens₁ decided₁ opens' decided' : List ℕ} → way ≡ Above
-      → CarriedOut (labels way side.0 sites) (Only 1) opens decided k went opens₁ decided₁ → went ≡ true
-      → CarriedOut (labels way side.0 sites) (Only 2) opens₁ decided₁ k ok opens' decided'
-      → CarriedOut (labels way side.0 sites) Every opens decided k ok opens' decided'
+  pub carried-above : {went ok : Bool} {state₁ state' : State} → labels.way ≡ Above
+      → CarriedOut (problem_of labels) (Only 1) state k went state₁ → went ≡ true
+      → CarriedOut (problem_of labels) (Only 2) state₁ k ok state'
+      → CarriedOut (problem_of labels) Every state k ok state'
   carried-above is first went second =
       carried-every (λ j e listed different is_open meets.
-      among (open-corner opens j e is_open)
-      (subst (λ w. LookedAt w (corner_at decided k) e) is ((may.met_looked j listed different).looked e is_open meets)))
+      among (open-corner state.opens j e is_open)
+      (subst (λ w. LookedAt w (corner_at state.decided k) e) is ((may.met_looked j listed different).looked e is_open meets)))
       (carried-twice (first.carried went) second)
     where
-      among : {e : ℕ} → Corner e → LookedAt Above (corner_at decided k) e → Either (Only 1) (Only 2) e
+      among : {e : ℕ} → Corner e → LookedAt Above (corner_at state.decided k) e → Either (Only 1) (Only 2) e
       among {e} corner (low small) = by_one (ℕ_discrete e 1)
         where
           by_one : Dec (e ≡ 1) → Either (Only 1) (Only 2) e

@@ -1,19 +1,22 @@
 -- What choosing hands back, as document 01 has it: the first good choice, or none.
 -- Assumes nothing.
-use Rattle.std.specs.Prelude.{◌≡◌, refl, Bool, true, false, Option, Some, None, is_some, List, ◌∷◌, ◌++◌, ℕ, zero, suc, ◌-◌, ◌≤◌, length, take, replicate}
+use Rattle.std.specs.Prelude.{◌≡◌, refl, Bool, true, false, Option, Some, None, is_some, List, ◌∷◌, ◌++◌, ℕ, zero, suc, ◌-◌, ◌≤◌, ◌<◌, ◌≢◌, length, take, replicate}
 use Rattle.std.proofs.Common.{sym, ap, ◌∙◌, le_of_suc-le-suc, arith}
+use Rattle.std.proofs.lemmas.List.{get_or_past}
+use Rattle.std.proofs.Math.Decide.{dec_lt}
 use Rattle.std.proofs.Math.Option.{Option as Found, some, none}
+use Rattle.placing.specs.declared.fresh.State.{State}
 use Rattle.placing.specs.declared.units.Place.{Place}
 use Rattle.placing.specs.declared.way.Way.{Way}
 use Rattle.placing.specs.rules.Units.{most_sites, Distinct}
-use Rattle.placing.specs.rules.Choice.{SomeGood, First}
+use Rattle.placing.specs.rules.Choice.{corner_at, SomeGood, First}
 use Rattle.placing.specs.deciding.Answer.{first_good}
 use Rattle.placing.specs.calls.Placing.{choice_as}
 use Rattle.placing.specs.theorems.Choice.{first-at-one}
 use Rattle.placing.specs.theorems.Answer.{NoneGood, first_good-some, first_good-none, first_found, none_found}
 use Rattle.placing.specs.search.State.{Walked}
 use Rattle.placing.specs.search.Decided.{walk-solution, walk-none-before}
-use Rattle.placing.specs.code.Labels.{labels, good-solution, solution-good}
+use Rattle.placing.specs.code.Labels.{problem, good-solution, solution-good}
 use Rattle.placing.specs.code.Steps.{WalkedTo}
 
 -- The corners of the n sites, where there are any.
@@ -21,21 +24,32 @@ abbrev pub choice_in : ℕ → Option (List ℕ) → Found (List ℕ)
 choice_in n (Some cs) = some (take n cs)
 choice_in n None = none
 
--- At the end of a walk the decisions of the sites are the first good choice.
-decisions-first : (way : Way) (h : ℕ) (ps : List Place) (opens decided : List ℕ) → length ps ≤ length decided
-    → Walked (labels way h ps) (length ps) opens decided → First way h ps (take (length ps) decided)
-decisions-first way h ps opens decided few walked =
-    record {
-      good = solution-good way h ps (take (length ps) decided) (walk-solution walked few);
-      none_before = λ es good. walk-none-before walked few es (good-solution way h ps es good);
-    }
+-- Where the sites below n are decided, the decisions are at least n.
+decisions_long : (n : ℕ) (decided : List ℕ) → ((j : ℕ) → j < n → corner_at decided j ≢ 0) → n ≤ length decided
+decisions_long zero decided all = omega arith
+decisions_long (suc n) decided all = from (dec_lt n (length decided))
+  where
+    from : Dec (n < length decided) → suc n ≤ length decided
+    from (yes there) = omega arith
+    from (no past) = absurd (all n (omega arith) (get_or_past decided n 0 (omega arith)))
 
-module _ {way : Way} {h : ℕ} {ps : List Place} {ok : Bool} {opens decided : List ℕ}
-    (walked : WalkedTo (labels way h ps) (length ps) ok opens decided) where
+-- At the end of a walk the decisions of the sites are the first good choice.
+decisions-first : (way : Way) (h : ℕ) (ps : List Place) (state : State) → Walked (problem way h ps) (length ps) state.opens state.decided
+    → First way h ps (take (length ps) state.decided)
+decisions-first way h ps state walked =
+    record {
+      good = solution-good way h ps (take (length ps) state.decided) (walk-solution walked long);
+      none_before = λ es good. walk-none-before walked long es (good-solution way h ps es good);
+    }
+  where
+    long : length ps ≤ length state.decided
+    long = decisions_long (length ps) state.decided (λ j listed. walked.all_decided j listed listed)
+
+module _ {way : Way} {h : ℕ} {ps : List Place} {ok : Bool} {state : State}
+    (walked : WalkedTo (problem way h ps) (length ps) ok state) where
   -- A walk over all sites leaves the first good choice,
-  pub walked_choice : length ps ≤ most_sites → ok ≡ true → choice_in (length ps) (Some decided) ≡ first_good way h ps
-  walked_choice few yes_ok =
-      sym (first_found (decisions-first way h ps opens decided (omega (arith, walked.sizes.decided_size)) (walked.walked yes_ok)))
+  pub walked_choice : ok ≡ true → choice_in (length ps) (Some state.decided) ≡ first_good way h ps
+  walked_choice yes_ok = sym (first_found (decisions-first way h ps state (walked.walked yes_ok)))
 
   -- or there is none.
   pub walked_none : ok ≡ false → choice_in (length ps) None ≡ first_good way h ps

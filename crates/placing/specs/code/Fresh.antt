@@ -1,10 +1,11 @@
 -- The bytes of a state before anything is decided: which corners are open at a side, by their reaches.
 -- Assumes nothing.
-use Rattle.std.specs.Prelude.{◌≡◌, refl, List, ℕ, ◌*◌, ◌≤◌, ◌<◌, length, get_or, replicate}
+use Rattle.std.specs.Prelude.{◌≡◌, List, ℕ, ◌*◌, ◌≤◌, ◌<◌, length, get_or, replicate}
 use Rattle.std.proofs.Math.Decide.{dec_le}
 use Rattle.std.proofs.Common.{arith}
 use Rattle.std.proofs.lemmas.List.{get_or-replicate}
 use Rattle.placing.specs.declared.crowding.Crowding.{Crowding}
+use Rattle.placing.specs.declared.fresh.State.{State}
 use Rattle.placing.specs.declared.units.HalfUnits.{HalfUnits}
 use Rattle.placing.specs.declared.units.Place.{Place}
 use Rattle.placing.specs.declared.way.Way.{Way}
@@ -13,11 +14,10 @@ use Rattle.placing.specs.rules.Corner.{Corner}
 use Rattle.placing.specs.rules.Choice.{Allowed}
 use Rattle.placing.specs.search.Rows.{index_of, row_of, row_at, open-corner}
 use Rattle.placing.specs.search.State.{Fresh}
-use Rattle.placing.specs.code.Labels.{labels}
+use Rattle.placing.specs.code.Labels.{problem}
 use Rattle.placing.specs.code.Filled.{Filled, filled_front}
 use Rattle.placing.specs.code.Pairs.{reach_at}
 use Rattle.placing.specs.code.Crowding.{AllowedWithin, ReachesAre}
-use Rattle.placing.specs.code.Steps.{Sizes}
 
 -- The byte of a corner with this reach: 1 where the doubled side is within it.
 pub record OpenByte (reach side byte : ℕ) : Type 0 where
@@ -30,10 +30,9 @@ OpenedBelow crowding side k opens =
     Filled 0 (λ at byte. OpenByte (get_or crowding.reaches at 0) side byte) 0 k (replicate (4 * most_sites) 0) opens
 
 -- The state at a side before anything is decided, for every n sites that have these reaches.
-pub record FreshState (crowding : Crowding) (n : ℕ) (side : HalfUnits) (opens decided : List ℕ) : Type 0 where
-  pub sizes : Sizes opens decided
+pub record FreshState (crowding : Crowding) (n : ℕ) (side : HalfUnits) (state : State) : Type 0 where
   pub fresh : (way : Way) (ps : List Place) → length ps ≡ n → 1 ≤ side.0 → side.0 ≤ crowding.top.0 → ReachesAre way ps crowding
-      → Fresh (labels way side.0 ps) opens decided
+      → Fresh (problem way side.0 ps) state.opens state.decided
 
 module _ {way : Way} {ps : List Place} {top side i c reach byte : ℕ} (inside : side ≤ top) (known : AllowedWithin way ps top i c reach)
     (byte-is : OpenByte reach side byte) where
@@ -51,10 +50,10 @@ module _ {way : Way} {ps : List Place} {top side i c reach byte : ℕ} (inside :
 
 -- With the bytes of all sites written, and nothing decided, the state is fresh.
 pub fresh-all : {crowding : Crowding} {n : ℕ} {side : HalfUnits} {opens : List ℕ} → n ≤ most_sites
-    → OpenedBelow crowding side.0 (4 * n) opens → FreshState crowding n side opens (replicate most_sites 0)
+    → OpenedBelow crowding side.0 (4 * n) opens
+    → FreshState crowding n side (record { opens = opens; decided = replicate most_sites 0 })
 fresh-all {crowding} {n} {side} {opens} few opened =
     record {
-      sizes = record { opens_size = opened.size; decided_size = refl };
       fresh = λ way ps count least inside known.
           record {
             candidate = λ i c listed one.

@@ -6,6 +6,7 @@
 use Rattle.std.specs.Prelude.{◌≡◌, List, ◌≢◌, ◌⊎◌, ℕ, ◌≤◌, ◌<◌, length}
 use Rattle.std.proofs.Common.{sym, arith}
 use Rattle.std.proofs.Math.Logic.{Ne-symm, ⊎_map}
+use Rattle.placing.specs.declared.labels.Labels.{Labels}
 use Rattle.placing.specs.declared.units.Place.{Place}
 use Rattle.placing.specs.declared.way.Way.{Way}
 use Rattle.placing.specs.declared.way.Way.TheVariants.{Usual, Above}
@@ -54,8 +55,8 @@ labels-one-dead Above h sites i a b c listed a≢b a≢c b≢c at_a at_b at_c =
     absurd (omega (arith, at_a.corner.least, at_b.corner.least, at_c.corner.least))
 
 -- These sites, with labels of side h.
-abbrev pub labels : (way : Way) (h : ℕ) (sites : List Place) → Problem
-labels way h sites =
+abbrev pub problem : (way : Way) (h : ℕ) (sites : List Place) → Problem
+problem way h sites =
     record {
       n = length sites;
       Candidate = AllowedCorner way h sites;
@@ -65,8 +66,20 @@ labels way h sites =
       one_dead = labels-one-dead way h sites;
     }
 
+-- The same of the labels that the code places: how many there are,
+abbrev pub count_of : Labels → ℕ
+count_of labels = length labels.sites.now
+
+-- the problem,
+abbrev pub problem_of : Labels → Problem
+problem_of labels = problem labels.way labels.side.0 labels.sites.now
+
+-- and the labels of sites k and j meet, at corners c and e.
+abbrev pub MeetIn : Labels → ℕ → ℕ → ℕ → ℕ → Type 0
+MeetIn labels = MeetAt labels.side.0 labels.sites.now
+
 -- A good choice is a solution.
-pub good-solution : (way : Way) (h : ℕ) (sites : List Place) (cs : List ℕ) → Good way h sites cs → Solution (labels way h sites) cs
+pub good-solution : (way : Way) (h : ℕ) (sites : List Place) (cs : List ℕ) → Good way h sites cs → Solution (problem way h sites) cs
 good-solution way h sites cs good =
     record {
       one_each = good.corners.one_each;
@@ -75,7 +88,7 @@ good-solution way h sites cs good =
     }
 
 -- A solution is a good choice.
-pub solution-good : (way : Way) (h : ℕ) (sites : List Place) (cs : List ℕ) → Solution (labels way h sites) cs → Good way h sites cs
+pub solution-good : (way : Way) (h : ℕ) (sites : List Place) (cs : List ℕ) → Solution (problem way h sites) cs → Good way h sites cs
 solution-good way h sites cs solution =
     record {
       corners = record { one_each = solution.one_each; corner = λ i there. (solution.candidate i there).corner };

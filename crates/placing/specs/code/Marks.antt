@@ -5,13 +5,14 @@ use Rattle.std.specs.Prelude.{◌≡◌, refl, List, ◌≢◌, cond, ℕ, zero,
 use Rattle.std.proofs.Common.{sym, ◌∙◌, not-suc-le-zero, arith, ne_eqb, get_or-set_same, get_or-set_other}
 use mathlib.Core.HLevel.{dec→stable}
 use Rattle.std.proofs.Math.Decide.{ℕ_discrete}
+use Rattle.placing.specs.declared.fresh.State.{State}
 use Rattle.placing.specs.rules.Choice.{corner_at}
 use Rattle.placing.specs.code.Filled.{Filled, filled_front}
-use Rattle.placing.specs.code.Steps.{Done, FirstWaiting, mark_of, Marked}
+use Rattle.placing.specs.code.Steps.{Done, NoneWaits, mark_of, Marked}
 
 -- The marks of the sites below j are written over a table.
-abbrev pub MarkedBelow : (decided table : List ℕ) (j : ℕ) (marks : List ℕ) → Type 0
-MarkedBelow decided table j marks = Filled 0 (λ k mark. mark ≡ mark_of (corner_at decided k)) 0 j table marks
+abbrev pub MarkedBelow : (state : State) (table : List ℕ) (j : ℕ) (marks : List ℕ) → Type 0
+MarkedBelow state table j marks = Filled 0 (λ k mark. mark ≡ mark_of (corner_at state.decided k)) 0 j table marks
 
 -- 1 for a byte that is no mark.
 no_mark : ℕ → ℕ
@@ -54,10 +55,10 @@ mark-stays {k} marks j here done = from (ℕ_discrete j k)
     from (no d) = get_or-set_other marks k j 1 0 d ∙ done
 
 -- Where no site waits, every decided one is marked.
-pub none-waits-marked : {decided marks : List ℕ} {n : ℕ} → FirstWaiting decided marks n n
-    → (j : ℕ) → j < n → corner_at decided j ≢ 0 → Done marks j
-none-waits-marked {decided} {marks} first j listed d =
-    dec→stable (ℕ_discrete (get_or marks j 0) 1) (λ none. first.none_before j listed (record { is_decided = d; unmarked = none }))
+pub none-waits-marked : {state : State} {marks : List ℕ} {n : ℕ} → NoneWaits state marks n
+    → (j : ℕ) → j < n → corner_at state.decided j ≢ 0 → Done marks j
+none-waits-marked {state} {marks} none j listed d =
+    dec→stable (ℕ_discrete (get_or marks j 0) 1) (λ unmarked. none.none_waits j listed (record { is_decided = d; unmarked = unmarked }))
 
 -- A decided site's mark is 1.
 pub mark-decided : (c : ℕ) → c ≢ 0 → mark_of c ≡ 1
@@ -70,7 +71,7 @@ mark-undecided zero u m = omega arith
 mark-undecided (suc c) u m = omega arith
 
 -- With the marks of all sites written, exactly the decided ones are marked.
-pub marked_all : {decided table marks : List ℕ} {n : ℕ} → MarkedBelow decided table n marks → Marked decided n marks
+pub marked_all : {state : State} {table marks : List ℕ} {n : ℕ} → MarkedBelow state table n marks → Marked state n marks
 marked_all filled =
     record {
       marked = λ j listed d. filled_front filled j listed ∙ mark-decided _ d;

@@ -1,16 +1,16 @@
--- What finding the side of a list of places asks, and choosing at one.
+-- What finding the side of a list of places asks.
 -- Assumes nothing.
 use Rattle.std.specs.Prelude.{List, ℕ, ◌*◌, ◌≤◌, length, take}
 use Rattle.std.proofs.Common.{mul-le-mul_right, arith, length-take}
 use Rattle.placing.specs.declared.crowding.Crowding.{Crowding}
+use Rattle.placing.specs.declared.labels.Labels.{Labels}
 use Rattle.placing.specs.declared.units.HalfUnits.{HalfUnits}
 use Rattle.placing.specs.declared.units.Place.{Place}
-use Rattle.placing.specs.declared.way.Way.{Way}
 use Rattle.placing.specs.rules.Units.{free_side, Distinct}
 use Rattle.placing.specs.calls.Placing.{MayPlace}
-use Rattle.placing.specs.code.Asks.{MayChooseAt}
-use Rattle.placing.specs.code.Sites.{Held, held_at}
+use Rattle.placing.specs.code.Sites.{Held}
 use Rattle.placing.specs.code.Crowding.{judged_free, CrowdingIs}
+use Rattle.placing.specs.code.Labels.{count_of}
 
 -- Finding the side of these sites.
 pub record MayFind (sites : List Place) (marks : List ℕ) : Type 0 where
@@ -19,23 +19,21 @@ pub record MayFind (sites : List Place) (marks : List ℕ) : Type 0 where
   pub room : length sites ≤ length marks
 
 -- Bisecting, with the reaches and the top known.
-pub record MayBisect (sites : List Place) (way : Way) (crowding : Crowding) (marks : List ℕ) : Type 0 where
-  pub held : Held sites judged_free
-  pub distinct : Distinct sites
-  pub room : length sites ≤ length marks
-  pub crowding_is : CrowdingIs way free_side sites crowding
+pub record MayBisect (labels : Labels) (crowding : Crowding) (marks : List ℕ) : Type 0 where
+  pub distinct : Distinct labels.sites.now
+  pub room : count_of labels ≤ length marks
+  pub crowding_is : CrowdingIs labels.way free_side labels.sites.now crowding
 
--- Finding asks all that choosing does.
-pub may-choose : {sites : List Place} {marks : List ℕ} → MayFind sites marks → (side : HalfUnits) → side.0 ≤ free_side → MayChooseAt sites side marks
-may-choose may side judged = record { held = held_at side judged may.held; distinct = may.distinct; room = may.room }
+-- A list that may be placed is held, at every judged side,
+pub held-place : {sites : List Place} {table : List ℕ} → MayPlace sites table → (side : HalfUnits) → side.0 ≤ free_side → Held sites side
+held-place may side judged = record { few = may.few; in_range = may.in_range; judged = judged }
 
--- So does placing, with the front of the lent table for the marks.
+-- and the front of its lent table has room for the marks.
+pub marks-room : {sites : List Place} {table : List ℕ} → MayPlace sites table → length sites ≤ length (take (length sites) table)
+marks-room {sites} {table} may =
+    let wide : 1 * length sites ≤ length sites * length sites = mul-le-mul_right (length sites) may.some_sites in
+    omega (arith, may.room, length-take {A = ℕ})
+
+-- So finding is asked no more than placing.
 pub may-find : {sites : List Place} {table : List ℕ} → MayPlace sites table → MayFind sites (take (length sites) table)
-may-find {sites} {table} may =
-    record {
-      held = record { few = may.few; in_range = may.in_range; judged = omega arith };
-      distinct = may.distinct;
-      room =
-          let wide : 1 * length sites ≤ length sites * length sites = mul-le-mul_right (length sites) may.some_sites in
-          omega (arith, may.room, length-take {A = ℕ});
-    }
+may-find may = record { held = held-place may judged_free (omega arith); distinct = may.distinct; room = marks-room may }

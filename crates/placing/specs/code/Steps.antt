@@ -1,25 +1,22 @@
 -- The state of a search as a trial holds it: 960 bytes, four for each site, 1 where the corner is open, and 240 bytes with the
 -- decided corners, 0 for none. What one step of the code does to them, for the laws of specs/search/Trial and specs/search/Walk to use.
 -- Assumes nothing.
-use Rattle.std.specs.Prelude.{◌≡◌, refl, Bool, true, false, List, ◌≢◌, ◌⊎◌, ℕ, zero, suc, ◌+◌, ◌*◌, ◌≤◌, ◌<◌, length, get_or}
+use Rattle.std.specs.Prelude.{◌≡◌, refl, Bool, true, false, Option, Some, None, List, ◌≢◌, ◌⊎◌, ℕ, zero, suc, ◌+◌, ◌≤◌, ◌<◌, get_or}
 use Rattle.std.proofs.Math.Decide.{dec_le}
 use Rattle.std.proofs.Common.{arith}
+use Rattle.placing.specs.declared.fresh.State.{State}
 use Rattle.placing.specs.declared.geometry.Label.{Label}
+use Rattle.placing.specs.declared.labels.Labels.{Labels}
 use Rattle.placing.specs.declared.trial.Left.{Left}
 use Rattle.placing.specs.declared.trial.Left.TheVariants.{Nothing, One, More}
 use Rattle.placing.specs.declared.units.Place.{Place}
-use Rattle.placing.specs.rules.Units.{most_sites, site_at}
+use Rattle.placing.specs.rules.Units.{site_at}
 use Rattle.placing.specs.rules.Corner.{directions_of}
 use Rattle.placing.specs.rules.Label.{Meet}
 use Rattle.placing.specs.rules.Choice.{corner_at}
 use Rattle.placing.specs.search.Problem.{Problem, Solution}
 use Rattle.placing.specs.search.Rows.{row_of, row_zero, open-corner}
 use Rattle.placing.specs.search.State.{SomeOpen, CarriedTo, Carried, Stuck, Closed, Later, Refused, Walked}
-
--- A byte for each corner of each site, and one for each site.
-pub record Sizes (opens decided : List ℕ) : Type 0 where
-  pub opens_size : length opens ≡ 4 * most_sites
-  pub decided_size : length decided ≡ most_sites
 
 -- Corner c alone is open, by the bytes of a row.
 pub record Lone (row : ℕ → ℕ) (c : ℕ) : Type 0 where
@@ -83,72 +80,77 @@ left-all opens j (one inside is_open alone) = record { is_open = is_open; alone 
 left-all opens j (more some) = some
 
 -- Corner c of site i was taken: it alone is open, and decided.
-pub record TakenCorner (opens decided : List ℕ) (i c : ℕ) (opens' decided' : List ℕ) : Type 0 where
-  pub sizes : Sizes opens' decided'
-  pub lone : Lone (row_of opens' i) c
-  pub takes : corner_at decided' i ≡ c
-  pub elsewhere : (j : ℕ) → j ≢ i → row_of opens' j ≡ row_of opens j
-  pub decided_elsewhere : (j : ℕ) → j ≢ i → corner_at decided' j ≡ corner_at decided j
+pub record TakenCorner (state : State) (i c : ℕ) (state' : State) : Type 0 where
+  pub lone : Lone (row_of state'.opens i) c
+  pub takes : corner_at state'.decided i ≡ c
+  pub elsewhere : (j : ℕ) → j ≢ i → row_of state'.opens j ≡ row_of state.opens j
+  pub decided_elsewhere : (j : ℕ) → j ≢ i → corner_at state'.decided j ≡ corner_at state.decided j
 
 -- Corner c of site j was closed, and the site decided if one corner is left.
-pub record ClosedCorner (opens decided : List ℕ) (j c : ℕ) (ok : Bool) (opens' decided' : List ℕ) : Type 0 where
-  pub sizes : Sizes opens' decided'
-  pub shut : row_of opens' j c ≢ 1
-  pub kept : (e : ℕ) → e ≢ c → row_of opens' j e ≡ row_of opens j e
-  pub elsewhere : (i : ℕ) → i ≢ j → row_of opens' i ≡ row_of opens i
-  pub decided_elsewhere : (i : ℕ) → i ≢ j → corner_at decided' i ≡ corner_at decided i
-  pub none_left : ok ≡ false → NoneOpen (row_of opens' j)
+pub record ClosedCorner (state : State) (j c : ℕ) (ok : Bool) (state' : State) : Type 0 where
+  pub shut : row_of state'.opens j c ≢ 1
+  pub kept : (e : ℕ) → e ≢ c → row_of state'.opens j e ≡ row_of state.opens j e
+  pub elsewhere : (i : ℕ) → i ≢ j → row_of state'.opens i ≡ row_of state.opens i
+  pub decided_elsewhere : (i : ℕ) → i ≢ j → corner_at state'.decided i ≡ corner_at state.decided i
+  pub none_left : ok ≡ false → NoneOpen (row_of state'.opens j)
   pub some_left : ok ≡ true
-      → Lone (row_of opens' j) (corner_at decided' j) ⊎ (SomeOpen (row_of opens' j) × (corner_at decided' j ≡ corner_at decided j))
+      → Lone (row_of state'.opens j) (corner_at state'.decided j) ⊎ (SomeOpen (row_of state'.opens j) × (corner_at state'.decided j ≡ corner_at state.decided j))
 
 -- Where site j is decided, its decided corner alone is open.
-pub record Settled (opens decided : List ℕ) (j : ℕ) : Type 0 where
-  pub settled : corner_at decided j ≢ 0 → Lone (row_of opens j) (corner_at decided j)
+pub record Settled (state : State) (j : ℕ) : Type 0 where
+  pub settled : corner_at state.decided j ≢ 0 → Lone (row_of state.opens j) (corner_at state.decided j)
 
 -- The same of every site.
-pub record AllSettled (n : ℕ) (opens decided : List ℕ) : Type 0 where
-  pub all_settled : (j : ℕ) → j < n → Settled opens decided j
+pub record AllSettled (n : ℕ) (state : State) : Type 0 where
+  pub all_settled : (j : ℕ) → j < n → Settled state j
 
 -- The label at corner c of a site, as the code has it.
 abbrev pub label_at : Place → ℕ → Label
 label_at s c = record { site = s; toward = directions_of c }
 
 -- The labels of two sites at corners c and e meet.
-pub record Clash (side : ℕ) (sites : List Place) (k c j e : ℕ) : Type 0 where
+pub record Clash (labels : Labels) (k c j e : ℕ) : Type 0 where
   pub different : j ≢ k
-  pub meets : Meet side 1 (site_at sites k) c (site_at sites j) e
+  pub meets : Meet labels.side.0 1 (site_at labels.sites.now k) c (site_at labels.sites.now j) e
 
 -- The decision of site k was carried to site j. Where j is k, nothing is to be done.
-pub record CarriedThere (P : Problem) (Looked : ℕ → Type 0) (opens decided : List ℕ) (k j : ℕ) (ok : Bool) (opens' decided' : List ℕ) : Type 0 where
-  pub sizes : Sizes opens' decided'
-  pub elsewhere : (i : ℕ) → i ≢ j → row_of opens' i ≡ row_of opens i
-  pub decided_elsewhere : (i : ℕ) → i ≢ j → corner_at decided' i ≡ corner_at decided i
-  pub own : row_of opens' k ≡ row_of opens k
-  pub own_decided : corner_at decided' k ≡ corner_at decided k
-  pub carried : ok ≡ true → j ≢ k → CarriedTo P Looked opens decided k j opens' decided'
+pub record CarriedThere (P : Problem) (Looked : ℕ → Type 0) (state : State) (k j : ℕ) (ok : Bool) (state' : State) : Type 0 where
+  pub elsewhere : (i : ℕ) → i ≢ j → row_of state'.opens i ≡ row_of state.opens i
+  pub decided_elsewhere : (i : ℕ) → i ≢ j → corner_at state'.decided i ≡ corner_at state.decided i
+  pub own : row_of state'.opens k ≡ row_of state.opens k
+  pub own_decided : corner_at state'.decided k ≡ corner_at state.decided k
+  pub carried : ok ≡ true → j ≢ k → CarriedTo P Looked state.opens state.decided k j state'.opens state'.decided
   pub stuck_other : ok ≡ false → j ≢ k
-  pub stuck : ok ≡ false → (e : ℕ) → row_of opens j e ≡ 1 → P.Conflict k (corner_at decided k) j e
+  pub stuck : ok ≡ false → (e : ℕ) → row_of state.opens j e ≡ 1 → P.Conflict k (corner_at state.decided k) j e
 
 -- The decision of site k was carried to every other site, or a site was left with no corner.
-pub record CarriedOut (P : Problem) (Looked : ℕ → Type 0) (opens decided : List ℕ) (k : ℕ) (ok : Bool) (opens' decided' : List ℕ) : Type 0 where
-  pub sizes : Sizes opens' decided'
-  pub carried : ok ≡ true → Carried P Looked opens decided k opens' decided'
-  pub stuck : ok ≡ false → Stuck P opens decided k
+pub record CarriedOut (P : Problem) (Looked : ℕ → Type 0) (state : State) (k : ℕ) (ok : Bool) (state' : State) : Type 0 where
+  pub carried : ok ≡ true → Carried P Looked state.opens state.decided k state'.opens state'.decided
+  pub stuck : ok ≡ false → Stuck P state.opens state.decided k
 
 -- Site k is marked: its decision has been carried out.
 abbrev pub Done : List ℕ → ℕ → Type 0
 Done marks k = get_or marks k 0 ≡ 1
 
 -- Site k waits: it is decided, and that has not been carried out.
-pub record Waits (decided marks : List ℕ) (k : ℕ) : Type 0 where
-  pub is_decided : corner_at decided k ≢ 0
+pub record Waits (state : State) (marks : List ℕ) (k : ℕ) : Type 0 where
+  pub is_decided : corner_at state.decided k ≢ 0
   pub unmarked : Done marks k → ⊥
 
--- The first site that waits, or n.
-pub record FirstWaiting (decided marks : List ℕ) (n k : ℕ) : Type 0 where
-  pub at_most : k ≤ n
-  pub found : k < n → Waits decided marks k
-  pub none_before : (j : ℕ) → j < k → Waits decided marks j → ⊥
+-- None of the sites below n waits.
+pub record NoneWaits (state : State) (marks : List ℕ) (n : ℕ) : Type 0 where
+  pub none_waits : (j : ℕ) → j < n → Waits state marks j → ⊥
+
+-- Site k is the first that waits.
+pub record IsWaiting (state : State) (marks : List ℕ) (n k : ℕ) : Type 0 where
+  pub listed : k < n
+  pub waiting : Waits state marks k
+  pub none_before : NoneWaits state marks k
+
+-- The first of n sites that waits, or none.
+abbrev pub FirstWaiting : State → List ℕ → ℕ → Option ℕ → Type 0
+FirstWaiting state marks n (Some k) = IsWaiting state marks n k
+FirstWaiting state marks n None = NoneWaits state marks n
 
 -- The mark of a site by its decided corner: 1 where it has one.
 abbrev pub mark_of : ℕ → ℕ
@@ -156,30 +158,26 @@ mark_of zero = 0
 mark_of (suc c) = 1
 
 -- Exactly the decided sites are marked.
-pub record Marked (decided : List ℕ) (n : ℕ) (marks : List ℕ) : Type 0 where
-  pub marked : (j : ℕ) → j < n → corner_at decided j ≢ 0 → Done marks j
-  pub unmarked : (j : ℕ) → j < n → corner_at decided j ≡ 0 → Done marks j → ⊥
+pub record Marked (state : State) (n : ℕ) (marks : List ℕ) : Type 0 where
+  pub marked : (j : ℕ) → j < n → corner_at state.decided j ≢ 0 → Done marks j
+  pub unmarked : (j : ℕ) → j < n → corner_at state.decided j ≡ 0 → Done marks j → ⊥
 
 -- All decisions were carried out, or a site was left with no corner.
-pub record CarriedOn (P : Problem) (opens decided : List ℕ) (ok : Bool) (opens' decided' : List ℕ) : Type 0 where
-  pub sizes : Sizes opens' decided'
-  pub closed : ok ≡ true → Closed P opens' decided'
+pub record CarriedOn (P : Problem) (state : State) (ok : Bool) (state' : State) : Type 0 where
+  pub closed : ok ≡ true → Closed P state'.opens state'.decided
   pub later : ok ≡ true → (w d : List ℕ) (i c : ℕ) → i < P.n → c ≢ 0
-      → Later P w d i c opens decided → Later P w d i c opens' decided'
+      → Later P w d i c state.opens state.decided → Later P w d i c state'.opens state'.decided
   pub refused : ok ≡ false → (w d : List ℕ) (i c : ℕ) → i < P.n → c ≢ 0
-      → Later P w d i c opens decided → Refused P w i c
+      → Later P w d i c state.opens state.decided → Refused P w i c
 
 -- Corner c of site i was tried. Where that failed, the state is as it was.
-pub record Tried (P : Problem) (opens decided : List ℕ) (i c : ℕ) (ok : Bool) (opens' decided' : List ℕ) : Type 0 where
-  pub sizes : Sizes opens' decided'
-  pub closed : ok ≡ true → Closed P opens' decided'
-  pub later : ok ≡ true → Later P opens decided i c opens' decided'
-  pub refused : ok ≡ false → Refused P opens i c
-  pub opens_back : ok ≡ false → opens' ≡ opens
-  pub decided_back : ok ≡ false → decided' ≡ decided
+pub record Tried (P : Problem) (state : State) (i c : ℕ) (ok : Bool) (state' : State) : Type 0 where
+  pub closed : ok ≡ true → Closed P state'.opens state'.decided
+  pub later : ok ≡ true → Later P state.opens state.decided i c state'.opens state'.decided
+  pub refused : ok ≡ false → Refused P state.opens i c
+  pub back : ok ≡ false → state' ≡ state
 
 -- The walk went on to site i, or there is no solution.
-pub record WalkedTo (P : Problem) (i : ℕ) (ok : Bool) (opens decided : List ℕ) : Type 0 where
-  pub sizes : Sizes opens decided
-  pub walked : ok ≡ true → Walked P i opens decided
+pub record WalkedTo (P : Problem) (i : ℕ) (ok : Bool) (state : State) : Type 0 where
+  pub walked : ok ≡ true → Walked P i state.opens state.decided
   pub no_solution : ok ≡ false → (cs : List ℕ) → Solution P cs → ⊥

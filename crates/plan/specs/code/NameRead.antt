@@ -1,8 +1,7 @@
 -- The record of a name, and what reading one hands back.
 -- Assumes nothing.
-use Rattle.std.specs.Prelude.{◌≡◌, Bool, true, false, List, [], ℕ}
+use Rattle.std.specs.Prelude.{◌≡◌, Bool, true, false, List, [], ℕ, Option, Some, None}
 use Rattle.plan.specs.declared.name.Name.{Name}
-use Rattle.plan.specs.declared.name.NameRead.{NameRead}
 use Rattle.plan.specs.rules.Text.{is_name}
 use Rattle.plan.specs.calls.Plan.{name_of, name_held}
 
@@ -14,14 +13,10 @@ Padded name = name ≡ name_of (name_held name)
 abbrev pub no_name : Name
 no_name = name_of []
 
--- No name was read.
-abbrev pub no_read : NameRead
-no_read = record { ok = false; name = no_name }
-
 -- The name, where the bytes are one.
-abbrev pub name_where : Bool → List ℕ → Name
-name_where true bytes = name_of bytes
-name_where false bytes = no_name
+abbrev pub name_where : Bool → List ℕ → Option Name
+name_where true bytes = Some (name_of bytes)
+name_where false bytes = None
 
-abbrev pub name_read : List ℕ → NameRead
-name_read bytes = record { ok = is_name bytes; name = name_where (is_name bytes) bytes }
+abbrev pub name_read : List ℕ → Option Name
+name_read bytes = name_where (is_name bytes) bytes

@@ -1,7 +1,7 @@
 -- Laws of writing text into a buffer: one text after another is one text.
 -- Assumes nothing.
-use Rattle.std.specs.Prelude.{◌≡◌, refl, List, [], ◌∷◌, ◌++◌, ℕ, suc, ◌+◌, ◌≤◌, length, take, drop, set}
-use Rattle.std.proofs.Common.{sym, ap, ◌∙◌, subst, arith, length-append, take_at}
+use Rattle.std.specs.Prelude.{◌≡◌, refl, List, [], ◌∷◌, ◌++◌, ℕ, suc, ◌+◌, ◌-◌, ◌≤◌, length, take, drop, set}
+use Rattle.std.proofs.Common.{sym, ap, ap₂, ◌∙◌, subst, append_assoc, arith, length-append, take_at, drop-drop}
 use Rattle.std.proofs.lemmas.List.Edits.{sets, sets-eq}
 use Rattle.std.proofs.Math.Seq.{length-sets}
 use Rattle.plan.specs.code.Put.{Put}
@@ -16,6 +16,19 @@ sets-append buffer at (x ∷ xs) ys =
 -- No text leaves the buffer as it is.
 pub put-none : (buffer : List ℕ) (at : ℕ) → Put buffer at [] at buffer
 put-none buffer at = record { next_is = omega arith; after_is = refl }
+
+-- A text that takes the place of as many bytes is written there.
+pub put-part : (buffer : List ℕ) (at : ℕ) (text : List ℕ) {part : List ℕ} → at + length text ≤ length buffer → part ≡ text
+    → Put buffer at text (at + length text) (take at buffer ++ (part ++ drop (at + length text - at) (drop at buffer)))
+put-part buffer at text room same =
+    let along : at + (at + length text - at) ≡ at + length text = omega arith in
+    record {
+      next_is = refl;
+      after_is =
+          ap₂ (λ (part rest : List ℕ). take at buffer ++ (part ++ rest)) same
+          (drop-drop (at + length text - at) at buffer ∙ ap (λ (i : ℕ). drop i buffer) along)
+          ∙ sym (sets-eq text buffer at room ∙ append_assoc (take at buffer) text (drop (at + length text) buffer));
+    }
 
 module _ {buffer : List ℕ} {at : ℕ} {xs : List ℕ} {next : ℕ} {after : List ℕ} (put : Put buffer at xs next after) where
   -- A text written behind another.

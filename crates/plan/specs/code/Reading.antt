@@ -1,35 +1,26 @@
 -- Reading a list line after line: what holds of the plan so far and of the text that is left.
 -- Assumes nothing.
-use Rattle.std.specs.Prelude.{◌≡◌, refl, Bool, true, false, List, [], ◌∷◌, ◌++◌, ℕ, ◌+◌, ◌≤◌, ◌<◌, length, drop, Some, None, Ok, Err}
+use Rattle.std.specs.Prelude.{◌≡◌, refl, List, [], ◌∷◌, ◌++◌, ℕ, ◌+◌, ◌≤◌, length, drop, Some, Ok, Err}
 use Rattle.std.specs.Prelude as rattle
 use Rattle.std.specs.Result.{result_err}
-use Rattle.std.proofs.Common.{sym, subst, ◌∙◌, arith, le-ltb, lt-ltb, length-drop, drop_of_length-le}
+use Rattle.std.proofs.Common.{sym, subst, ◌∙◌, arith, drop_of_length-le}
 use Rattle.std.proofs.Math.Path.{ap}
-use Rattle.std.proofs.Math.Option.{Option, none}
 use Rattle.placing.specs.rules.Units.{most_sites}
-use Rattle.plan.specs.declared.list.LineEnd.TheVariants.{Missing}
-use Rattle.plan.specs.declared.list.LineRead.{LineRead}
 use Rattle.plan.specs.declared.list.RefusedLine.{RefusedLine}
 use Rattle.plan.specs.declared.refusal.Refusal.{Refusal}
-use Rattle.plan.specs.declared.refusal.Refusal.TheVariants.{BadLine}
 use Rattle.plan.specs.declared.plan.Plan.{Plan}
-use Rattle.plan.specs.rules.Refusal.{first_refusal, Result, accepted, refused, unless, after_tests}
-use Rattle.plan.specs.rules.Text.{line_feed, fields_of}
-use Rattle.plan.specs.rules.List.{Site, Listed, with_site, list_text, most_line_bytes, TextLine, FirstLine, line_entered}
+use Rattle.plan.specs.rules.Refusal.{Result, accepted, refused}
+use Rattle.plan.specs.rules.Text.{line_feed}
+use Rattle.plan.specs.rules.List.{Site, Listed, list_text, TextLine, FirstLine, line_entered}
 use Rattle.plan.specs.rules.List.{Reads, end, refused_line, accepted_line}
-use Rattle.plan.specs.deciding.Reading.{cut_line}
 use Rattle.plan.specs.calls.Plan.{unplaced_plan, sites_in, Valid, is_unplaced}
-use Rattle.plan.specs.calls.Answers.{started, counted, handed, read_from, Outcome}
+use Rattle.plan.specs.calls.Answers.{started, counted, handed, read_from}
 use Rattle.plan.specs.Demands.{StopTold, at_a_line, at_no_line}
 use Rattle.plan.specs.theorems.Sites.{listed-none}
-use Rattle.plan.specs.theorems.Reading.{cut-first-line, first-line-whole, LineOf, entered-line, list-one-more}
+use Rattle.plan.specs.theorems.Reading.{first-line-whole, LineOf, entered-line, list-one-more}
 use Rattle.plan.specs.theorems.Reading.{first-refused, reads-are}
-use Rattle.plan.specs.theorems.Tables.{rest-none}
-use Rattle.plan.specs.theorems.Entering.{Passed, tests-passed}
 use Rattle.plan.specs.theorems.Plan.{sites-unplaced, valid-holding}
-use Rattle.plan.specs.code.PlanLaws.{one_more, holding-more}
-use Rattle.plan.specs.code.Entering.{wanted_read, outcome_of, outcome-refuses, outcome-none}
-use Rattle.plan.specs.code.Line.{between, line_at, LineAt, LineEnds, entered_fields, read_tests, LineReads}
+use Rattle.plan.specs.code.Line.{line_at, LineEntered, line_refused, line_accepted}
 use Rattle.plan.specs.code.CallLaws.{refusal-of}
 
 -- The lines up to a place are entered in a plan, and what reading the rest after them comes to, reading the whole text does.
@@ -40,10 +31,6 @@ pub record Reading (text : List ℕ) (plan : Plan) (at : ℕ) : Type 0 where
   pub within : at ≤ length text
   pub parts : text ≡ list_text sites ++ drop at text
   pub onward : (result : Result (List Site)) → Reads sites (drop at text) result → Reads [] text result
-
--- A plan with what was read of a line behind its sites.
-abbrev pub with_read : Plan → LineRead → Plan
-with_read plan line = one_more plan line.name.name line.place.place
 
 -- What reading line after line comes to: where it stops, at a line that is refused or nowhere.
 abbrev pub Stopped : Type 0
@@ -71,82 +58,43 @@ module _ {text : List ℕ} {plan : Plan} {at : ℕ} (so_far : Reading text plan 
   unfolding unplaced_plan
   reading-few = omega (arith, so_far.listed.few, ap (λ (p : Plan). p.count) so_far.held)
 
-  -- The number of the line behind them.
-  one_behind : {n : ℕ} → n ≡ counted plan → n + 1 ≡ plan.count + 1
-  one_behind count = ap (λ (m : ℕ). m + 1) (count ∙ sym (valid-holding reading-valid).count)
-
   -- At the text's end, every line is accepted.
   reading-all : length text ≤ at → Reads [] text (accepted so_far.sites)
   reading-all past = so_far.onward (accepted so_far.sites) (rw (drop_of_length-le text past) end)
 
-  -- Before it, without a whole line from there on, reading stops.
-  pub reading-missing : {n : ℕ} → n ≡ counted plan → at < length text → LineEnds text at Missing
-      → LinesReads text (Err (record { number = n + 1; at = at; why = BadLine })) plan
-  reading-missing count further missing =
-      let line = cut_line (drop at text) in
-      let first = cut-first-line (drop at text) (omega (arith, length-drop at text)) in
-      stops so_far (one_behind count) first (by_end line.ended line.bytes line.rest (missing line first))
-    where
-      by_end : (ended : Bool) (bytes rest : List ℕ) → (ended ≡ true → most_line_bytes < length bytes)
-          → line_entered so_far.sites (record { bytes = bytes; ended = ended; rest = rest }) ≡ refused BadLine
-      by_end false bytes rest long = refl
-      by_end true bytes rest long = rw (lt-ltb most_line_bytes (length bytes) (long refl))
+  -- The sites so far are those that the plan holds.
+  sites_so_far : sites_in plan ≡ so_far.sites
+  sites_so_far = ap sites_in so_far.held ∙ sites-unplaced so_far.sites
 
-  -- With one, its tests tell what the line comes to.
-  module _ {end : ℕ} (found : LineAt text at end) {line : LineRead} (reads : LineReads (fields_of (between text at end)) line) {outcome : Outcome}
-      (is : outcome ≡ outcome_of (first_refusal (read_tests (sites_in plan) line))) where
-    abbrev next : List Site
-    next = with_site (sites_in plan) (wanted_read line.name line.place)
+  -- The number of the line behind them.
+  one_behind : {n : ℕ} → n ≡ counted plan → n + 1 ≡ plan.count + 1
+  one_behind count = ap (λ (m : ℕ). m + 1) (count ∙ sym (valid-holding reading-valid).count)
 
-    line_is : line_entered so_far.sites (line_at text at end) ≡ after_tests (read_tests (sites_in plan) line) next
-    line_is =
-        rw
-        (le-ltb most_line_bytes (length (between text at end)) found.short)
-        (ap (λ (s : List Site). entered_fields s (fields_of (between text at end))) (sym (ap sites_in so_far.held ∙ sites-unplaced so_far.sites)))
-        ∙ reads.enters (sites_in plan)
+  -- Before it, reading stops at a line that is refused,
+  pub reading-refused : {new : Plan} {n : ℕ} {why : Refusal} → n ≡ counted plan → LineEntered text at plan (Err why) new
+      → LinesReads text (Err (record { number = n + 1; at = at; why = why })) new
+  reading-refused count (line_refused {line} first refuses) =
+      stops so_far (one_behind count) first (ap (λ (sites : List Site). line_entered sites line) (sym sites_so_far) ∙ refuses)
 
-    -- Refused, reading stops.
-    pub reading-refused : {why : Refusal} → outcome ≡ Err why
-        → {n : ℕ} → n ≡ counted plan → LinesReads text (Err (record { number = n + 1; at = at; why = why })) plan
-    reading-refused so count = stops so_far (one_behind count) found.first (line_is ∙ outcome-refuses (read_tests (sites_in plan) line) is next so)
-
-    -- Accepted, there is room for its site,
-    module _ (so : outcome ≡ Ok tt) where
-      none_holds : first_refusal (read_tests (sites_in plan) line) ≡ none
-      none_holds = outcome-none (read_tests (sites_in plan) line) is so
-
-      passed : Passed (sites_in plan) (wanted_read line.name line.place)
-      passed = tests-passed (rest-none 1 (read_tests (sites_in plan) line) none_holds)
-
-      reading-room : plan.count < most_sites
-      reading-room = omega (arith, (valid-holding reading-valid).count, passed.room)
-
-      -- and with it one line more is read.
-      accepts : line_entered so_far.sites (line_at text at end) ≡ accepted next
-      accepts = line_is ∙ ap (λ (first : Option Refusal). unless first next) none_holds
-
-      held_next : with_read plan line ≡ unplaced_plan next
-      held_next = holding-more (valid-holding reading-valid) line.name.name line.place.place reads.fits.padded reading-room
-
-      pub reading-listed : Listed next
-      reading-listed = let of : LineOf so_far.sites (line_at text at end) next = entered-line accepts in of.next_listed so_far.listed
-
-      pub reading-on : Reading text (with_read plan line) (end + 1)
-      reading-on =
-          let of : LineOf so_far.sites (line_at text at end) next = entered-line accepts in
-          record {
-            sites = next;
-            held = held_next;
-            listed = reading-listed;
-            within = omega (arith, found.inside);
-            parts =
-                so_far.parts
-                ∙ ap (λ (l : List ℕ). list_text so_far.sites ++ l) (first-line-whole found.first refl)
-                ∙ ap (λ (l : List ℕ). list_text so_far.sites ++ (l ++ (line_feed ∷ drop (end + 1) text))) of.written
-                ∙ list-one-more so_far.sites of.site (drop (end + 1) text)
-                ∙ ap (λ (s : List Site). list_text s ++ drop (end + 1) text) (sym of.next_is);
-            onward = λ result reads. so_far.onward result (accepted_line found.first accepts reads);
-          }
+  -- and with an accepted one it goes on behind that line.
+  pub reading-on : {new : Plan} {last : ℕ} → LineEntered text at plan (Ok last) new → Reading text new (last + 1)
+  reading-on (line_accepted {end = last} {next = next} found accepts) =
+      let comes : line_entered so_far.sites (line_at text at last) ≡ accepted next =
+      ap (λ (sites : List Site). line_entered sites (line_at text at last)) (sym sites_so_far) ∙ accepts in
+      let of : LineOf so_far.sites (line_at text at last) next = entered-line comes in
+      record {
+        sites = next;
+        held = refl;
+        listed = of.next_listed so_far.listed;
+        within = omega (arith, found.inside);
+        parts =
+            so_far.parts
+            ∙ ap (λ (l : List ℕ). list_text so_far.sites ++ l) (first-line-whole found.first refl)
+            ∙ ap (λ (l : List ℕ). list_text so_far.sites ++ (l ++ (line_feed ∷ drop (last + 1) text))) of.written
+            ∙ list-one-more so_far.sites of.site (drop (last + 1) text)
+            ∙ ap (λ (s : List Site). list_text s ++ drop (last + 1) text) (sym of.next_is);
+        onward = λ result reads. so_far.onward result (accepted_line found.first comes reads);
+      }
 
 -- ---- reading is over
 

@@ -1,16 +1,17 @@
 -- Whether a name or a place is already in a plan, as its record holds them.
 -- Assumes nothing.
-use Rattle.std.specs.Prelude.{◌≡◌, refl, Bool, true, false, ◌&&◌, ◌||◌, List, [], ◌∷◌, ◌++◌, map, ℕ, zero, suc, ◌+◌, ◌-◌, ◌<◌, eqb, length, get_or, take, replicate}
-use Rattle.std.proofs.Common.{ap, ap₂, not-suc-le-zero, le_of_suc-le-suc, add-one, eq-eqb, ne_eqb}
+use Rattle.std.specs.Prelude.{◌≡◌, refl, Bool, ◌||◌, List, [], ◌∷◌, ◌++◌, map, ℕ, zero, suc, ◌-◌, ◌<◌, length, get_or, take, replicate}
+use Rattle.std.specs.List.{list_any}
+use Rattle.std.proofs.Common.{ap, ap₂, arith}
 use Rattle.std.proofs.Math.Seq.{take-append_seam}
 use Rattle.placing.specs.declared.units.Place.{Place}
-use Rattle.placing.specs.rules.Units.{along, X, Y}
 use Rattle.placing.specs.deciding.Tests.{same_place}
 use Rattle.plan.specs.declared.name.Name.{Name}
 use Rattle.plan.specs.rules.Text.{most_name_bytes, same_bytes}
 use Rattle.plan.specs.rules.List.{Site, place_of, among, name_taken, place_taken}
 use Rattle.plan.specs.calls.Plan.{name_of, name_held, name_record, names_held, places_held}
 use Rattle.plan.specs.code.NameRead.{Padded}
+use Rattle.plan.specs.code.NameLaws.{same_records, records-equal}
 
 -- The site of a name's record at a place.
 abbrev pub site_of : Name → Place → Site
@@ -34,55 +35,25 @@ is_at place other = same_place other place
 abbrev pub places_taken : ℕ → List Place → Place → Bool
 places_taken n places place = among (is_at place) (take n places)
 
--- ---- laws: going through them one by one
+-- ---- laws: what looking through them says
 
--- One element more that does not pass.
-among-suc : {A : Type 0} (test : A → Bool) (l : List A) (i : ℕ) (d : A) → i < length l → among test (take i l) ≡ false
-    → test (get_or l i d) ≡ false → among test (take (suc i) l) ≡ false
-among-suc test [] i d below none fails = absurd (not-suc-le-zero below)
-among-suc test (a ∷ l) zero d below none fails = ap (λ (b : Bool). b || false) fails
-among-suc test (a ∷ l) (suc i) d below none fails = later (test a) none (λ rest. among-suc test l i d (le_of_suc-le-suc below) rest fails)
-  where
-    later : (b : Bool) → (b || among test (take i l)) ≡ false → (among test (take i l) ≡ false → among test (take (suc i) l) ≡ false)
-        → (b || among test (take (suc i) l)) ≡ false
-    later true none more = none
-    later false none more = more none
+-- Some element passes: the test that `any` and `contains` make.
+any-among : {A : Type 0} (test : A → Bool) (l : List A) → list_any test l ≡ among test l
+any-among test [] = refl
+any-among test (a ∷ l) = ap (λ (rest : Bool). test a || rest) (any-among test l)
 
--- Where none of the first i passes, and the next one does not, none of the first i + 1 does.
-pub among-more : {A : Type 0} (test : A → Bool) (l : List A) (i : ℕ) (d : A) → i < length l → among test (take i l) ≡ false
-    → test (get_or l i d) ≡ false → among test (take (i + 1) l) ≡ false
-among-more test l i d below none fails = rw add-one (among-suc test l i d below none fails)
+-- A place is found by its coordinates,
+pub place-found : (n : ℕ) (places : List Place) (place : Place) → list_any (is_at place) (take n places) ≡ places_taken n places place
+place-found n places place = any-among (is_at place) (take n places)
 
-or-true : (a b : Bool) → b ≡ true → (a || b) ≡ true
-or-true true b e = refl
-or-true false b e = e
-
--- Where the element at i passes, some element of the first n does.
-pub among_one : {A : Type 0} (test : A → Bool) (l : List A) (n i : ℕ) (d : A) → i < n → i < length l → test (get_or l i d) ≡ true
-    → among test (take n l) ≡ true
-among_one test l zero i d counted below passes = absurd (not-suc-le-zero counted)
-among_one test [] (suc n) i d counted below passes = absurd (not-suc-le-zero below)
-among_one test (a ∷ l) (suc n) zero d counted below passes = ap (λ (b : Bool). b || among test (take n l)) passes
-among_one test (a ∷ l) (suc n) (suc i) d counted below passes =
-    or-true (test a) _ (among_one test l n i d (le_of_suc-le-suc counted) (le_of_suc-le-suc below) passes)
-
--- A list has the same element at a number of its own, whatever stands past its end.
-same-element : {A : Type 0} (l : List A) (i : ℕ) (d e : A) → i < length l → get_or l i d ≡ get_or l i e
-same-element [] i d e below = absurd (not-suc-le-zero below)
-same-element (a ∷ l) zero d e below = refl
-same-element (a ∷ l) (suc i) d e below = same-element l i d e (le_of_suc-le-suc below)
-
--- A held name is padded.
-pub held-padded : {n : ℕ} {names : List Name} → PaddedNames n names → (i : ℕ) (d : Name) → i < n → i < length names → Padded (get_or names i d)
-held-padded {n} {names} held i d counted below = rw (same-element names i d (name_of []) below) (held.padded i counted)
-
--- Two places with another x are not the same, and with the same x y decides.
-module _ (a b : Place) where
-  pub other-x : (along X a ≡ along X b → ⊥) → same_place a b ≡ false
-  other-x differ = ap (λ (t : Bool). t && eqb (along Y a) (along Y b)) (ne_eqb (along X a) (along X b) differ)
-
-  pub same-x : along X a ≡ along X b → same_place a b ≡ eqb (along Y a) (along Y b)
-  same-x same = ap (λ (t : Bool). t && eqb (along Y a) (along Y b)) (eq-eqb (along X a) (along X b) same)
+-- and a name, where the records are padded, by its bytes.
+pub name-found : (n : ℕ) (names : List Name) → PaddedNames n names → (name : Name) → Padded name
+    → list_any (λ (other : Name). same_records other name) (take n names) ≡ names_taken n names (name_held name)
+name-found zero names held name padded = refl
+name-found (suc n) [] held name padded = refl
+name-found (suc n) (other ∷ names) held name padded =
+    ap₂ (λ (a b : Bool). a || b) (records-equal other name (held.padded 0 (omega arith)) padded)
+    (name-found n names (record { padded = λ i below. held.padded (suc i) (omega arith) }) name padded)
 
 -- ---- laws: what a plan holds
 

@@ -8,13 +8,13 @@ use Rattle.placing.proofs.crowding.lower_row.Goals as goal
 
 pub loop-j-init : goal.loop-j-init
 loop-j-init c =
-    (omega arith, omega arith, row-starts refl c.requires.2)
+    (omega arith, row-starts refl c.requires.2)
 
 pub lower_pair-requires : goal.lower_pair-requires
 lower_pair-requires c =
     let held = c.requires.0 in
     record {
-      size = c.loop-j.invariant.2.size;
+      size = c.loop-j.invariant.1.size;
       inside = omega (arith, held.few);
       other_inside = omega (arith, held.few);
       on_plan = held.in_range.in_range c.args.i c.requires.1;
@@ -28,8 +28,8 @@ overflow_step-j-in-loop-j c =
 
 pub loop-j-preserved : goal.loop-j-preserved
 loop-j-preserved c =
-    (omega arith, omega arith, over-pair c.loop-j.invariant.0 c.loop-j-test.true c.loop-j.invariant.2 c.lower_pair.ensures)
+    (omega arith, over-pair c.loop-j.invariant.0 c.loop-j-test.true c.loop-j.invariant.1 c.lower_pair.ensures)
 
 pub returns : goal.returns
 returns c =
-    row_ends (omega arith) c.loop-j.invariant.2
+    row_ends (omega arith) c.loop-j.invariant.1

@@ -1,9 +1,5 @@
-use Prim.Native.Nat.{◌-◌, ◌≤◌}
 use Rattle.placing.specs.code.Pairs.{LoweredUpTo}
 use Rattle.placing.proofs.crowding.lower_site.Given as goal
 
 abbrev pub invariant-loop-e : goal.invariant-loop-e
-invariant-loop-e l = (l.e ≤ 4) × LoweredUpTo l.i l.s l.t l.initial.reaches l.e l.reaches
-
-abbrev pub decreases-loop-e : goal.decreases-loop-e
-decreases-loop-e l = 4 - l.e
+invariant-loop-e l = LoweredUpTo l.i l.s l.t l.initial.reaches l.e l.reaches

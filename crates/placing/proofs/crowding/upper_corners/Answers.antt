@@ -7,12 +7,12 @@ use Rattle.placing.proofs.crowding.upper_corners.Goals as goal
 
 pub loop-at-init : goal.loop-at-init
 loop-at-init c =
-    (omega arith, filled_none)
+    filled_none
 
 pub loop-at-preserved : goal.loop-at-preserved
 loop-at-preserved c =
-    (omega arith, filled_next c.loop-at.invariant.1 (omega arith) c.upper_reach.ensures)
+    filled_next c.loop-at.invariant (omega arith) c.upper_reach.ensures
 
 pub returns : goal.returns
 returns c =
-    crowding-above _ c.doubled-furthest.ensures (omega arith) c.loop-at.invariant.1
+    crowding-above _ c.doubled-furthest.ensures (omega arith) c.loop-at.invariant

@@ -9,13 +9,13 @@ use Rattle.placing.proofs.fresh.fresh_state.Goals as goal
 
 pub loop-at-init : goal.loop-at-init
 loop-at-init c =
-    (omega arith, filled_none)
+    filled_none
 
 pub loop-at-preserved : goal.loop-at-preserved
 loop-at-preserved c =
-    (omega arith, filled_next c.loop-at.invariant.1 (omega arith) c.is_open.ensures)
+    filled_next c.loop-at.invariant (omega arith) c.is_open.ensures
 
 pub returns : goal.returns
 returns c =
     let end : c.loop-at.at ≡ 4 * c.args.n = omega arith in
-    fresh-all c.requires.0 (rw end at c.loop-at.invariant.1)
+    fresh-all c.requires.0 (rw end at c.loop-at.invariant)

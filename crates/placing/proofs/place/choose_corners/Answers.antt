@@ -1,19 +1,18 @@
 -- `placing::place::choose_corners` meets its contract: the first choice, and the cleared table.
 -- Assumes nothing.
-use Prim.Native.Nat.{◌≤◌, ◌*◌}
+use Prim.Native.Nat.{ℕ, ◌≤◌, ◌*◌}
 use lib.ListN.{length}
 use native.Mathlib.Omega.{arith}
 use native.Mathlib.Nat.{mul-le-mul_right}
 use borrow.Author.Rules.{rules}
-use Prim.Native.Nat.{ℕ}
 use Rattle.std.proofs.lemmas.List.{length-take}
 use Rattle.std.proofs.lemmas.Slice.{drop-append-drop}
-use Rattle.placing.specs.code.Placed.{may-find, may-choose}
+use Rattle.placing.specs.code.Placed.{marks-room}
 use Rattle.placing.proofs.place.choose_corners.Goals as goal
 
 pub first_choice-corners-requires : goal.first_choice-corners-requires
 first_choice-corners-requires c =
-    may-choose (may-find c.requires.0) _ (rw c.judged_at.ensures c.requires.1)
+    record { distinct = c.requires.0.distinct; room = marks-room c.requires.0 }
 
 pub returns-clause-table : goal.returns-clause-table
 returns-clause-table c =

@@ -5,4 +5,4 @@ use Rattle.placing.proofs.side.greatest_side.Goals as goal
 pub bisect-requires : goal.bisect-requires
 bisect-requires c =
     let may = c.requires in
-    record { held = may.held; distinct = may.distinct; room = may.room; crowding_is = c.reaches_of-crowding.ensures }
+    record { distinct = may.distinct; room = may.room; crowding_is = c.crowding-crowding.ensures }

@@ -1,26 +1,29 @@
--- `plan::list::line_end` meets its contract. The loop's invariant: the bytes passed are no line feeds. Assumes nothing.
-use native.Mathlib.Nat.{add-zero, add_assoc}
-use native.Mathlib.Omega.{arith}
+-- `line_end` meets its contract: the first of the bytes that is a line feed. Assumes nothing.
+use Rattle.std.proofs.Common.{ℕ, ◌+◌, ◌≡◌, ◌≢◌, Option, length, subst, arith, rules, tests}
+use Rattle.std.specs.Option.{option_map}
+use Rattle.std.proofs.lemmas.Iterator.{YieldsList-from_slice, YieldsList-from_take, IsFirst-from_position}
+use Rattle.std.proofs.lemmas.Slice.{between_to_end}
 use Rattle.plan.specs.rules.Text.{line_feed}
-use Rattle.plan.specs.code.LineLaws.{no-byte-starts, no-byte-on, line-here, feed-later}
+use Rattle.plan.specs.code.Line.{LineEnds}
+use Rattle.plan.specs.code.LineLaws.{end-found}
 use Rattle.plan.proofs.list.line_end.Goals as goal
+use Rattle.plan.proofs.list.line_end.Goals.{After-position}
 
-pub loop-i-init : goal.loop-i-init
-loop-i-init c =
-    (omega arith, rw add-zero (no-byte-starts line_feed c.args.text.now c.args.at c.requires))
+-- The line feed that is found is the line's end.
+ends : (c : After-position) → LineEnds c.args.text.now c.args.at (option_map (λ n. c.args.at + n) c.position.result)
+ends c =
+    let text = c.args.text.now in
+    end-found text c.args.at c.requires (between_to_end text c.args.at (length text) (omega arith)) c.position.result
+    (IsFirst-from_position _ _ _ (λ b. b ≡ line_feed) (λ b. b ≢ line_feed) c.position.ensures.ran
+    (YieldsList-from_take 21 (YieldsList-from_slice _ cc) (cc)) (λ x q k. search (rules, tests)) (λ x q k. search (rules, tests)))
 
-pub returns-then-text-at : goal.returns-then-text-at
-returns-then-text-at c line first ended =
-    omega (arith, feed-later c.loop-i.invariant.1 line first ended)
-
-pub returns-then-text-at-eq10 : goal.returns-then-text-at-eq10
-returns-then-text-at-eq10 c =
-    line-here c.loop-i.invariant.1 (omega arith) c.if-text-at-eq10.true (omega arith)
-
-pub loop-i-preserved : goal.loop-i-preserved
-loop-i-preserved c =
-    (omega arith, rw (← add_assoc) (no-byte-on c.loop-i.invariant.1 (omega arith) c.if-text-at-eq10.false))
+pub returns-in_err-n : goal.returns-in_err-n
+returns-in_err-n c =
+    rw c.from_residual.ensures
+    (subst (λ (found : Option ℕ). LineEnds c.args.text.now c.args.at (option_map (λ n. c.args.at + n) found)) c.in_err-n.was
+    (ends (goal.at.returns-in_err-n c).After-position))
 
 pub returns : goal.returns
-returns c line first ended =
-    omega (arith, feed-later c.loop-i.invariant.1 line first ended)
+returns c =
+    subst (λ (found : Option ℕ). LineEnds c.args.text.now c.args.at (option_map (λ n. c.args.at + n) found)) c.in_ok-n.was
+    (ends (goal.at.returns c).After-position)

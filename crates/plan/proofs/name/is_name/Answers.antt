@@ -1,36 +1,24 @@
--- `is_name` meets its contract: the bytes passed are of a name. The measure is what is left.
--- Assumes nothing.
-use mathlib.Core.Path.{refl, sym, ◌∙◌}
-use native.Mathlib.Omega.{arith}
-use borrow.Author.Rules.{rules}
-use Rattle.plan.specs.code.NameLaws.{name-bytes-from, bytes-passed, empty-no-name, long-no-name, short-name}
+-- `is_name` meets its contract: 1 to 8 bytes, all of them of a name. Assumes nothing.
+use Rattle.std.proofs.Common.{sym, ◌∙◌, arith, rules, tests}
+use Rattle.std.proofs.lemmas.Bool.{eqb-false}
+use Rattle.std.proofs.lemmas.Iterator.{YieldsList-from_slice}
+use Rattle.std.proofs.lemmas.Iterator.Search.{all_from_yields_List}
+use borrow.Author.Tests.{eqb-true}
+use Rattle.plan.specs.rules.Text.{is_name_byte}
+use Rattle.plan.specs.code.NameLaws.{empty-no-name, long-no-name, short-name, name-bytes-all}
 use Rattle.plan.proofs.name.is_name.Goals as goal
+use Rattle.plan.proofs.name.is_name.Goals.{then-is_empty-via-then-is_empty, then-is_empty-via-else-is_empty+then-text-gt-LONGEST}
 
-pub returns-then-n-eq0 : goal.returns-then-n-eq0
-returns-then-n-eq0 c =
-    sym (empty-no-name _ c.if-n-eq0.true)
-
-pub returns-then-n-gt-LONGEST : goal.returns-then-n-gt-LONGEST
-returns-then-n-gt-LONGEST c =
-    sym (long-no-name _ c.if-n-gt-LONGEST.true)
-
-pub loop-i-init : goal.loop-i-init
-loop-i-init c =
-    (refl, search rules, refl)
-
-pub returns-then-not-is_name_byte : goal.returns-then-not-is_name_byte
-returns-then-not-is_name_byte c =
-    let text = c.args.text.now in
-    let failed = sym c.is_name_byte.ensures ∙ c.if-not-is_name_byte.true in
-    sym (short-name text (omega arith) (omega arith) ∙ c.loop-i.invariant.2 ∙ name-bytes-from text c.loop-i.i (omega arith) failed)
-
-pub loop-i-preserved : goal.loop-i-preserved
-loop-i-preserved c =
-    let text = c.args.text.now in
-    let passed = sym c.is_name_byte.ensures ∙ c.if-not-is_name_byte.false in
-    (refl, omega arith, c.loop-i.invariant.2 ∙ name-bytes-from text c.loop-i.i (omega arith) passed)
+pub returns-then-is_empty : goal.returns-then-is_empty
+returns-then-is_empty c =
+    elim c.then-is_empty.branch [
+      | then-is_empty-via-then-is_empty w ↦ sym (empty-no-name _ (eqb-true _ 0 (sym c.is_empty.ensures ∙ w.if-is_empty.true)))
+      | then-is_empty-via-else-is_empty+then-text-gt-LONGEST w ↦ sym (long-no-name _ w.if-text-gt-LONGEST.true)
+    ]
 
 pub returns : goal.returns
 returns c =
     let text = c.args.text.now in
-    sym (short-name text (omega arith) (omega arith) ∙ c.loop-i.invariant.2 ∙ bytes-passed text c.loop-i.i (omega arith))
+    all_from_yields_List is_name_byte _ _ _ c.all.ensures.ran (YieldsList-from_slice text cc) (λ x b q k. search (rules, tests))
+    ∙ name-bytes-all text
+    ∙ sym (short-name text (omega (arith, eqb-false _ 0 (sym c.is_empty.ensures ∙ c.if-is_empty.false))) c.if-text-gt-LONGEST.false)

@@ -1,26 +1,34 @@
 -- `name_from` meets its contract: the bytes of a name are put over zeros.
 -- Assumes nothing.
-use mathlib.Core.Path.{◌≡◌, sym, ◌∙◌}
-use mathlib.Core.Bool.{true}
-use native.Mathlib.Omega.{arith}
-use Rattle.plan.specs.rules.Text.{is_name}
+use Rattle.std.proofs.Common.{◌≡◌, Bool, true, List, ℕ, ◌++◌, ◌≤◌, length, sym, ap₂, ◌∙◌, length-take-le}
+use Rattle.plan.specs.rules.Text.{is_name, most_name_bytes}
 use Rattle.plan.specs.theorems.Text.{name-short}
-use Rattle.plan.specs.code.NameLaws.{no-name-read, name-read}
+use Rattle.plan.specs.code.NameLaws.{no-name-read, name-read, drop-zeros}
 use Rattle.plan.proofs.name.name_from.Goals as goal
+
+-- A name has at most eight bytes.
+short : (text : List ℕ) {is : Bool} → is ≡ is_name text → is ≡ true → length text ≤ most_name_bytes
+short text says named = name-short text (sym says ∙ named)
 
 pub returns-then-not-is_name : goal.returns-then-not-is_name
 returns-then-not-is_name c =
-    no-name-read c.args.text.now c.none.ensures
-    (sym c.is_name.ensures ∙ c.if-not-is_name.true)
+    no-name-read c.args.text.now (sym c.is_name.ensures ∙ c.if-not-is_name.true)
 
-pub put_bytes-requires : goal.put_bytes-requires
-put_bytes-requires c =
-    let named : is_name c.args.text.now ≡ true =
-    sym c.is_name.ensures ∙ c.if-not-is_name.false in
-    (omega arith, omega (arith, name-short _ named))
+pub slice_bounds-bytes-end : goal.slice_bounds-bytes-end
+slice_bounds-bytes-end c =
+    short _ c.is_name.ensures c.if-not-is_name.false
+
+pub slice_bounds-copy_from_slice-end : goal.slice_bounds-copy_from_slice-end
+slice_bounds-copy_from_slice-end c =
+    sym (length-take-le _ _ (short _ c.is_name.ensures c.if-not-is_name.false))
+
+pub copy_from_slice-requires : goal.copy_from_slice-requires
+copy_from_slice-requires c =
+    length-take-le _ _ (short _ c.is_name.ensures c.if-not-is_name.false)
 
 pub returns : goal.returns
 returns c =
-    let named : is_name c.args.text.now ≡ true =
-    sym c.is_name.ensures ∙ c.if-not-is_name.false in
-    name-read c.args.text.now named c.put_bytes.ensures
+    let text = c.args.text.now in
+    name-read text (sym c.is_name.ensures ∙ c.if-not-is_name.false)
+    (ap₂ (λ (front rest : List ℕ). record { bytes = front ++ rest; len = length text }) c.copy_from_slice.ensures.after
+    (drop-zeros (length text) most_name_bytes))

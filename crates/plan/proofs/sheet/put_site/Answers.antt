@@ -25,36 +25,36 @@ module _ {buffer after later : List ℕ} {at next last b : ℕ} where
 
 pub put_decimal-after_x-requires : goal.put_decimal-after_x-requires
 put_decimal-after_x-requires c =
-    let name = past_name c.args.name c.requires.0 c.requires.3 c.put_name-after_name.ensures c.put_byte-from_x.ensures in
+    let name = past_name c.args.name c.requires.0 c.requires.3 (put_same c.put_bytes-after_name.ensures c.text.ensures) c.put_byte-from_x.ensures in
     omega (arith, decimal-short c.args.place.x.0 (omega arith))
 
 pub put_byte-from_y-requires : goal.put_byte-from_y-requires
 put_byte-from_y-requires c =
-    let name = past_name c.args.name c.requires.0 c.requires.3 c.put_name-after_name.ensures c.put_byte-from_x.ensures in
+    let name = past_name c.args.name c.requires.0 c.requires.3 (put_same c.put_bytes-after_name.ensures c.text.ensures) c.put_byte-from_x.ensures in
     omega (arith, put-room c.put_decimal-after_x.ensures 5 9 (decimal-short c.args.place.x.0 (omega arith)) name)
 
 pub put_decimal-after_y-requires : goal.put_decimal-after_y-requires
 put_decimal-after_y-requires c =
-    let name = past_name c.args.name c.requires.0 c.requires.3 c.put_name-after_name.ensures c.put_byte-from_x.ensures in
+    let name = past_name c.args.name c.requires.0 c.requires.3 (put_same c.put_bytes-after_name.ensures c.text.ensures) c.put_byte-from_x.ensures in
     let x = past_number c.args.place.x.0 8 (omega arith) name c.put_decimal-after_x.ensures c.put_byte-from_y.ensures in
     omega (arith, decimal-short c.args.place.y.0 (omega arith))
 
 pub put_byte-from_corner-requires : goal.put_byte-from_corner-requires
 put_byte-from_corner-requires c =
-    let name = past_name c.args.name c.requires.0 c.requires.3 c.put_name-after_name.ensures c.put_byte-from_x.ensures in
+    let name = past_name c.args.name c.requires.0 c.requires.3 (put_same c.put_bytes-after_name.ensures c.text.ensures) c.put_byte-from_x.ensures in
     let x = past_number c.args.place.x.0 8 (omega arith) name c.put_decimal-after_x.ensures c.put_byte-from_y.ensures in
     omega (arith, put-room c.put_decimal-after_y.ensures 5 3 (decimal-short c.args.place.y.0 (omega arith)) x)
 
 pub put_decimal-after_corner-requires : goal.put_decimal-after_corner-requires
 put_decimal-after_corner-requires c =
-    let name = past_name c.args.name c.requires.0 c.requires.3 c.put_name-after_name.ensures c.put_byte-from_x.ensures in
+    let name = past_name c.args.name c.requires.0 c.requires.3 (put_same c.put_bytes-after_name.ensures c.text.ensures) c.put_byte-from_x.ensures in
     let x = past_number c.args.place.x.0 8 (omega arith) name c.put_decimal-after_x.ensures c.put_byte-from_y.ensures in
     let y = past_number c.args.place.y.0 2 (omega arith) x c.put_decimal-after_y.ensures c.put_byte-from_corner.ensures in
     omega (arith, corner-text-short c.args.corner c.requires.2)
 
 pub put_byte-requires : goal.put_byte-requires
 put_byte-requires c =
-    let name = past_name c.args.name c.requires.0 c.requires.3 c.put_name-after_name.ensures c.put_byte-from_x.ensures in
+    let name = past_name c.args.name c.requires.0 c.requires.3 (put_same c.put_bytes-after_name.ensures c.text.ensures) c.put_byte-from_x.ensures in
     let x = past_number c.args.place.x.0 8 (omega arith) name c.put_decimal-after_x.ensures c.put_byte-from_y.ensures in
     let y = past_number c.args.place.y.0 2 (omega arith) x c.put_decimal-after_y.ensures c.put_byte-from_corner.ensures in
     omega (arith, put-room c.put_decimal-after_corner.ensures 1 1 (corner-text-short c.args.corner c.requires.2) y)
@@ -62,7 +62,7 @@ put_byte-requires c =
 pub returns : goal.returns
 returns c =
     put_same
-    (put_then c.put_name-after_name.ensures
+    (put_then (put_same c.put_bytes-after_name.ensures c.text.ensures)
     (put_then c.put_byte-from_x.ensures
     (put_then c.put_decimal-after_x.ensures
     (put_then c.put_byte-from_y.ensures

@@ -1,53 +1,24 @@
--- `Plan::enter_read` meets its contract: refused, the plan is as it came; else a name and a place more make it the plan of one site more.
+-- `Plan::enter_read` meets its contract: what is admitted makes the plan that of one site more.
 -- Assumes nothing.
-use mathlib.Core.Path.{◌∙◌}
-use Prim.Native.Nat.{◌<◌}
-use native.Mathlib.Omega.{arith}
+use Rattle.std.proofs.Common.{◌<◌, sym, ◌∙◌, arith}
 use Rattle.placing.specs.rules.Units.{most_sites}
-use Rattle.plan.specs.rules.List.{Listed, with_site, enter_tests}
 use Rattle.plan.specs.calls.Plan.{sites_in}
-use Rattle.plan.specs.theorems.Entering.{Passed, tests-passed, passed-entered, passed-listed}
-use Rattle.plan.specs.theorems.Plan.{valid-holding}
+use Rattle.plan.specs.theorems.Plan.{Holding, valid-holding}
 use Rattle.plan.specs.code.PlanLaws.{holding-more}
-use Rattle.plan.specs.code.CallLaws.{handed-back, refuses, accepts}
-use Rattle.plan.specs.code.Entering.{wanted_read, outcome-refuses, outcome-none, read-rules}
+use Rattle.plan.specs.code.CallLaws.{accepts}
+use Rattle.plan.specs.code.Entering.{admitted-enters}
 use Rattle.plan.proofs.plan.Plan.enter_read.Goals as goal
-use Rattle.plan.proofs.plan.Plan.enter_read.Goals.{In_ok-enter_outcome}
-
--- No test holds.
-passes : (c : In_ok-enter_outcome) → Passed (sites_in c.args.self.now) (wanted_read c.args.name c.args.place)
-passes c =
-    tests-passed (outcome-none (enter_tests (sites_in c.args.self.now) (wanted_read c.args.name c.args.place)) c.enter_outcome.ensures.outcome c.in_ok-enter_outcome.was)
-
--- So there is room for the site.
-room : (c : In_ok-enter_outcome) → c.args.self.now.count < most_sites
-room c = omega (arith, (valid-holding c.enter_outcome.ensures.valid).count, (passes c).room)
-
-pub returns-in_err-enter_outcome : goal.returns-in_err-enter_outcome
-returns-in_err-enter_outcome c =
-    let told = refuses c.enter_outcome.ensures.valid (handed-back c.args.self.now c.from_residual.ensures.1)
-    (outcome-refuses (enter_tests (sites_in c.args.self.now) (wanted_read c.args.name c.args.place)) c.enter_outcome.ensures.outcome _ c.in_err-enter_outcome.was) in
-    record {
-      answer = told.0;
-      valid = told.1;
-    }
-
--- and with it the plan's sites are by the rules.
-listed : (c : In_ok-enter_outcome) → Listed (with_site (sites_in c.args.self.now) (wanted_read c.args.name c.args.place))
-listed c =
-    passed-listed (valid-holding c.enter_outcome.ensures.valid).listed (read-rules c.requires.0 c.requires.1 (passes c)) (passes c)
 
 pub add-requires : goal.add-requires
-add-requires c = (c.requires.0.padded, listed (goal.at.add-requires c).In_ok-enter_outcome)
+add-requires c =
+    let site = admitted-enters _ c.args.site c.requires (sym c.admit.ensures.answer ∙ c.in_ok-name.was) in
+    (site.padded, site.listed (valid-holding c.admit.ensures.valid).listed)
 
 pub returns : goal.returns
 returns c =
-    let ok = (goal.at.returns c).In_ok-enter_outcome in
-    let told = accepts c.args.self.now (listed ok)
-    (c.add.ensures
-    ∙ holding-more (valid-holding c.enter_outcome.ensures.valid) c.args.name.name c.args.place.place c.requires.0.padded (room ok))
-    (passed-entered (passes ok)) in
-    record {
-      answer = told.0;
-      valid = told.1;
-    }
+    let plan = c.args.self.now in
+    let holding : Holding plan (sites_in plan) = valid-holding c.admit.ensures.valid in
+    let site = admitted-enters _ c.args.site c.requires (sym c.admit.ensures.answer ∙ c.in_ok-name.was) in
+    let room : plan.count < most_sites = omega (arith, holding.count, site.room) in
+    let done = accepts plan (site.listed holding.listed) (c.add.ensures ∙ holding-more holding _ _ site.padded room) site.enters in
+    record { answer = done.0; valid = done.1 }

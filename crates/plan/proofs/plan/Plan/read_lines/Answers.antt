@@ -1,9 +1,8 @@
 -- `Plan::read_lines` meets its contract. The loop's invariant: the lines up to `at` are entered, and the rest gives what the whole text
 -- gives.
 -- Assumes nothing.
-use mathlib.Core.Path.{refl}
-use native.Mathlib.Omega.{arith}
-use Rattle.plan.specs.code.Reading.{ends, reading-starts, reading-valid, reading-few, reading-missing, reading-refused, reading-listed, reading-on}
+use Rattle.std.proofs.Common.{arith}
+use Rattle.plan.specs.code.Reading.{ends, reading-starts, reading-valid, reading-few, reading-refused, reading-on}
 use Rattle.plan.specs.theorems.Plan.{valid-holding}
 use Rattle.plan.proofs.plan.Plan.read_lines.Goals as goal
 
@@ -15,28 +14,16 @@ pub overflow_add-number : goal.overflow_add-number
 overflow_add-number c =
     omega (arith, reading-few c.loop-at.invariant, (valid-holding (reading-valid c.loop-at.invariant)).count, c.count-number.ensures.answer)
 
-pub returns-in_default : goal.returns-in_default
-returns-in_default c =
-    reading-missing c.loop-at.invariant c.count-number.ensures.answer c.loop-at-test.true c.in_default.ensures
-
-pub line_outcome-requires : goal.line_outcome-requires
-line_outcome-requires c =
-    c.read_line-line.ensures.fits
+pub enter_line-requires : goal.enter_line-requires
+enter_line-requires c = c.loop-at-test.true
 
 pub returns-in-Err : goal.returns-in-Err
 returns-in-Err c =
-    reading-refused c.loop-at.invariant c.in-At.ensures c.read_line-line.ensures c.in-Err.ensures refl c.count-number.ensures.answer
-
-pub add-requires : goal.add-requires
-add-requires c = (
-  c.read_line-line.ensures.fits.padded,
-  reading-listed c.loop-at.invariant c.in-At.ensures c.read_line-line.ensures c.in_default-line_outcome.ensures refl,
-)
+    reading-refused c.loop-at.invariant c.count-number.ensures.answer c.in-Err.ensures
 
 pub loop-at-preserved : goal.loop-at-preserved
 loop-at-preserved c =
-    rw c.add.ensures
-    (reading-on c.loop-at.invariant c.in-At.ensures c.read_line-line.ensures c.in_default-line_outcome.ensures refl)
+    reading-on c.loop-at.invariant c.in-Ok.ensures
 
 pub returns : goal.returns
 returns c =

@@ -7,10 +7,10 @@ use Rattle.plan.specs.code.CallLaws.{handed-on, placement-there, placement-none,
 use Rattle.plan.specs.theorems.Calls.{side-told}
 use Rattle.plan.proofs.plan.Plan.side.Goals as goal
 
-pub returns-in_err-placement : goal.returns-in_err-placement
-returns-in_err-placement c =
+pub returns-in_err-ok_or : goal.returns-in_err-ok_or
+returns-in_err-ok_or c =
     let plan = plan_of c.self.inside in
-    let none = placement-none c.self.inside.placement NotPlaced (sym c.ok_or.ensures.value ∙ c.in_err-placement.was) in
+    let none = placement-none c.self.inside.placement NotPlaced (sym c.ok_or.ensures.value ∙ c.in_err-ok_or.was) in
     let is = handed-on c.from_residual.ensures.1 ∙ ap Err (sym none.1) ∙ side-refused plan none.0 in
     let told = side-told plan is in
     rw (← c.self.view_is) (record {
@@ -22,7 +22,7 @@ returns-in_err-placement c =
 pub returns : goal.returns
 returns c =
     let plan = plan_of c.self.inside in
-    let there = placement-there c.self.inside.placement NotPlaced (sym c.ok_or.ensures.value ∙ c.in_ok-placement.was) in
+    let there = placement-there c.self.inside.placement NotPlaced (sym c.ok_or.ensures.value ∙ c.in_ok-ok_or.was) in
     let is = ap (λ at. Ok (placement_held at).side) (sym there) ∙ side-given plan (ap is_some there) in
     let told = side-told plan is in
     rw (← c.self.view_is) (record {

@@ -1,6 +1,6 @@
 -- `Plan::write` meets its contract: the sheet is made in an array of its own, and copied where there is room.
 -- Assumes nothing.
-use Rattle.std.proofs.Common.{◌≡◌, sym, ap, subst, ◌∙◌, true, ◌≤◌, arith, length}
+use Rattle.std.proofs.Common.{◌≡◌, sym, ap, subst, ◌∙◌, true, ◌≤◌, arith, length, length-take-le}
 use Rattle.plan.specs.declared.plan.Plan.{Plan}
 use Rattle.plan.specs.calls.Plan.{Valid}
 use Rattle.plan.specs.calls.Lengths.{longest_sheet}
@@ -49,15 +49,25 @@ returns-then-buffer-n c =
       value = told.1.1.1.1;
     }
 
-pub put_bytes-requires : goal.put_bytes-requires
-put_bytes-requires c =
-    let room = fits (goal.at.put_bytes-requires c).Else-is_none in
-    (omega (arith, put-length c.compose-n.ensures), omega arith)
+pub slice_bounds-sheet-end : goal.slice_bounds-sheet-end
+slice_bounds-sheet-end c =
+    let room = fits (goal.at.slice_bounds-sheet-end c).Else-is_none in omega (arith, put-length c.compose-n.ensures)
+
+pub slice_bounds-copy_from_slice-end-3 : goal.slice_bounds-copy_from_slice-end-3
+slice_bounds-copy_from_slice-end-3 c =
+    let room = fits (goal.at.slice_bounds-copy_from_slice-end-3 c).Else-is_none in
+    sym (length-take-le c.compose-n.result c.compose-n.new.out (omega (arith, put-length c.compose-n.ensures)))
+
+pub copy_from_slice-requires : goal.copy_from_slice-requires
+copy_from_slice-requires c =
+    let room = fits (goal.at.copy_from_slice-requires c).Else-is_none in
+    length-take-le c.compose-n.result c.args.buffer.now c.if-buffer-n.false
+    ∙ sym (length-take-le c.compose-n.result c.compose-n.new.out (omega (arith, put-length c.compose-n.ensures)))
 
 pub returns : goal.returns
 returns c =
     let at = (goal.at.returns c).Else-is_none in
-    let told = write-copied (valid at) (placed at) c.compose-n.ensures (fits at) c.if-buffer-n.false c.put_bytes.ensures in
+    let told = write-copied (valid at) (placed at) c.compose-n.ensures (fits at) c.if-buffer-n.false c.copy_from_slice.ensures.after in
     record {
       answer = told.0;
       buffer = told.1.0;

@@ -1,2 +1,0 @@
--- What several proofs share: facts about lists.
-mod Copied

@@ -96,10 +96,10 @@ fn top_left(reaches: &[u32; Limits::ALL_CORNERS], i: usize, top: HalfUnits) -> H
     requires { (length reaches.now ≡ 4 * most_sites) × (i < most_sites) }
     ensures { TopLeft reaches.now i top.0 result.0 }
 {
+    let own = Limits::CORNERS * i;
     let mut furthest = HalfUnits(0);
-    for e in 0..Limits::CORNERS {
-        let at = 4 * i + e;
-        furthest = furthest.max(HalfUnits(reaches[at]));
+    for reach in &reaches[own..own + Limits::CORNERS] {
+        furthest = furthest.max(HalfUnits(*reach));
     }
     top.min(furthest.halved())
 }

@@ -29,8 +29,8 @@ pub(crate) fn fresh_state(crowding: &Crowding, n: usize, side: HalfUnits) -> Sta
     ensures { FreshState crowding.now n side result }
 {
     let mut opens = [0u8; Limits::ALL_CORNERS];
-    for at in 0..4 * n {
-        opens[at] = is_open(HalfUnits(crowding.reaches[at]), side);
+    for (at, reach) in crowding.reaches[..Limits::CORNERS * n].iter().enumerate() {
+        opens[at] = is_open(HalfUnits(*reach), side);
     }
     let decided = [0u8; Limits::SITES];
     State { opens, decided }

@@ -1,7 +1,7 @@
 // A trial decides a corner of one site and carries on: a decided site closes the corners of others that its label meets, and
 // a site left with one corner is decided too. A byte of the lent table marks a site whose decision has been carried out. A trial keeps a
 // copy of the state as it came, to put back where it fails.
-ghost use Rattle.std.specs.Prelude.{◌≡◌, ℕ, ◌≤◌, ◌<◌, length, set};
+ghost use Rattle.std.specs.Prelude.{◌≡◌, ℕ, ◌≤◌, ◌<◌, IsTrue, ◌↔◌, length, set};
 ghost use Rattle.placing.specs.rules.Units.{most_sites, site_at, OnPlan};
 ghost use Rattle.placing.specs.rules.Corner.{Corner, directions_of};
 ghost use Rattle.placing.specs.search.Rows.{row_of};
@@ -52,9 +52,10 @@ impl State {
         requires { j < most_sites }
         ensures { LeftIs result (row_of self.now.opens j) }
     {
+        let own = Limits::CORNERS * j;
         let mut left = Left::Nothing;
-        for e in 0..Limits::CORNERS {
-            if self.opens[4 * j + e] == 1 {
+        for (e, open) in self.opens[own..own + Limits::CORNERS].iter().enumerate() {
+            if *open == 1 {
                 left = one_more(left, (e + 1) as u8);
             }
         }
@@ -94,12 +95,9 @@ impl State {
     // Site `k` waits: it is decided and not marked. A marked site costs one byte read.
     fn waits(&self, marks: &[u8], k: usize) -> bool
         requires { (k < most_sites) × (k < length marks.now) }
-        ensures { Decides result (Waits self.now marks.now k) }
+        ensures { IsTrue result ↔ Waits self.now marks.now k }
     {
-        if marks[k] == 1 {
-            return false;
-        }
-        self.decided[k] != 0
+        marks[k] != 1 && self.decided[k] != 0
     }
 
     // The first of `n` sites that waits. Below `from` none waits.
@@ -107,12 +105,7 @@ impl State {
         requires { MayLook self.now marks.now from n }
         ensures { FirstWaiting self.now marks.now n result }
     {
-        for k in from..n {
-            if self.waits(marks, k) {
-                return Some(k);
-            }
-        }
-        None
+        (from..n).find(|k| self.waits(marks, *k))
     }
 
     // Marks the decided ones of `n` sites.
@@ -120,8 +113,8 @@ impl State {
         requires { (n ≤ most_sites) × (n ≤ length marks.old) }
         ensures { Marked self.now n marks.new }
     {
-        for j in 0..n {
-            marks[j] = mark_of(self.decided[j]);
+        for (j, decided) in self.decided[..n].iter().enumerate() {
+            marks[j] = mark_of(*decided);
         }
     }
 }

@@ -103,20 +103,21 @@ module _ {plan : Plan} {sites : List Site} (holding : Holding plan sites) where
 
 -- ---- laws: what is admitted, test by test
 
-module _ (sites : List Site) (read : SiteRead) {name : Name} {place : Place} (named : read.name ≡ Some name) (spot : read.place ≡ Some place) where
-  pub full_refused : most_sites ≤ length sites → Err why.Full ≡ admitted sites read
-  full_refused full = rw (named, spot, le-leb most_sites (length sites) full)
+pub full_refused : (sites : List Site) (read : SiteRead) → is_some read.name ≡ true → is_some read.place ≡ true → most_sites ≤ length sites
+    → Err why.Full ≡ admitted sites read
+full_refused sites read named there full = rw (named, there, le-leb most_sites (length sites) full)
 
-  module _ (room : length sites < most_sites) where
-    pub name_refused : name_taken sites (name_held name) ≡ true → Err why.NameTaken ≡ admitted sites read
-    name_refused taken = rw (named, spot, lt-leb most_sites (length sites) room, taken)
+module _ (sites : List Site) (read : SiteRead) {name : Name} {place : Place} (named : read.name ≡ Some name) (spot : read.place ≡ Some place)
+    (room : length sites < most_sites) where
+  pub name_refused : name_taken sites (name_held name) ≡ true → Err why.NameTaken ≡ admitted sites read
+  name_refused taken = rw (named, spot, lt-leb most_sites (length sites) room, taken)
 
-    module _ (fresh : name_taken sites (name_held name) ≡ false) where
-      pub place_refused : place_taken sites place ≡ true → Err why.PlaceTaken ≡ admitted sites read
-      place_refused taken = rw (named, spot, lt-leb most_sites (length sites) room, fresh, taken)
+  module _ (fresh : name_taken sites (name_held name) ≡ false) where
+    pub place_refused : place_taken sites place ≡ true → Err why.PlaceTaken ≡ admitted sites read
+    place_refused taken = rw (named, spot, lt-leb most_sites (length sites) room, fresh, taken)
 
-      pub all_admitted : place_taken sites place ≡ false → Ok (name, place) ≡ admitted sites read
-      all_admitted free = rw (named, spot, lt-leb most_sites (length sites) room, fresh, free)
+    pub all_admitted : place_taken sites place ≡ false → Ok (name, place) ≡ admitted sites read
+    all_admitted free = rw (named, spot, lt-leb most_sites (length sites) room, fresh, free)
 
 -- ---- laws: what is admitted can be entered
 

@@ -2,6 +2,7 @@
 -- Assumes nothing.
 use mathlib.Core.Path.{◌≡◌}
 use native.Mathlib.Omega.{arith}
+use Rattle.std.proofs.lemmas.List.{get_or-take}
 use Rattle.placing.specs.code.Filled.{filled_none, filled_next}
 use Rattle.placing.specs.code.Marks.{marked_all}
 use Rattle.placing.proofs.fresh.State.mark.Goals as goal
@@ -12,7 +13,7 @@ loop-j-init c =
 
 pub loop-j-preserved : goal.loop-j-preserved
 loop-j-preserved c =
-    filled_next c.loop-j.invariant (omega arith) c.mark_of.ensures
+    filled_next c.loop-j.invariant (omega arith) (rw (get_or-take c.args.n c.args.self.now.decided c.loop-j.j 0 (omega arith)) at c.mark_of.ensures)
 
 pub returns : goal.returns
 returns c =

@@ -5,7 +5,7 @@ ghost use Rattle.grow.specs.Asked.{number_given, place_given, growth_by_words};
 use desk::Word;
 use growth::how_far;
 use placing::units::{Growth, Limits, Place, Units};
-use plan::number::{Coordinate, coordinate_from};
+use plan::number::coordinate_from;
 use plan::refusal::Refusal;
 use std::rt::Env;
 
@@ -34,10 +34,7 @@ impl LabelWords {
 pub(crate) fn number_given(word: &Word) -> u32
     ensures { result ≡ number_given word.now }
 {
-    let Coordinate::At(units) = coordinate_from(word.text()) else {
-        return Limits::COORDINATE + 1;
-    };
-    units.0
+    coordinate_from(word.text()).map_or(Limits::COORDINATE + 1, |units| units.0)
 }
 
 fn place_given(label: &LabelWords) -> Place

@@ -1,11 +1,9 @@
 -- The word above is asked for by its five bytes alone, and a side by the bytes that a sheet writes for it.
 -- Assumes nothing.
-use Rattle.std.specs.Prelude.{◌≡◌, refl, Bool, true, ◌&&◌, List, [], ◌∷◌, ℕ, eqb}
-use Rattle.std.specs.Cmp.Lexicographic.{pointwise}
+use Rattle.std.specs.Prelude.{◌≡◌, true, [], ◌∷◌}
 use Rattle.std.proofs.Common.{ap, ◌∙◌}
 use Rattle.placing.specs.declared.units.Side.{Side}
 use Rattle.placing.specs.rules.Answer.{is_side}
-use Rattle.plan.specs.rules.Text.{same_bytes}
 use Rattle.plan.specs.rules.Sheet.{side_text, side_in}
 use Rattle.plan.specs.calls.Given.{side_by_word}
 use Rattle.plan.specs.theorems.Text.{same-bytes-same}
@@ -13,14 +11,6 @@ use Rattle.plan.specs.theorems.ReadOff.{side-in-text}
 use Rattle.desk.specs.declared.Word.{Word}
 use Rattle.desk.specs.Words.{bytes_in}
 use Rattle.place.specs.Asked.{is_above}
-
--- The test of two texts, as the library's `==` makes it.
-pub compared-same : (a b : List ℕ) → pointwise eqb a b ≡ same_bytes a b
-unfolding same_bytes
-compared-same [] [] = refl
-compared-same [] (y ∷ b) = refl
-compared-same (x ∷ a) [] = refl
-compared-same (x ∷ a) (y ∷ b) = ap (λ (rest : Bool). eqb x y && rest) (compared-same a b)
 
 -- Another word is not taken for it.
 pub above_word : (word : Word) → is_above word ≡ true → bytes_in word ≡ 97 ∷ 98 ∷ 111 ∷ 118 ∷ 101 ∷ []

@@ -1,9 +1,10 @@
 -- The two calls over bytes: what each gives for every list and every buffer, by every way and at every side, over the definitions of crate
 -- plan.
 -- Assumes nothing.
-use Rattle.std.specs.Prelude.{◌≡◌, true, false, List, ℕ, ◌≤◌, ◌<◌, eqb, length, take}
+use Rattle.std.specs.Prelude.{◌≡◌, true, false, List, ℕ, ◌≤◌, ◌<◌, eqb, Option, None, Some, length, take}
 use Rattle.placing.specs.declared.units.Side.{Side}
 use Rattle.placing.specs.declared.units.Side.TheVariants.{Number, Free}
+use Rattle.placing.specs.declared.way.Way.{Way}
 use Rattle.placing.specs.declared.way.Way.TheVariants.{Usual, Above}
 use Rattle.plan.specs.declared.refusal.Refusal.{Refusal}
 use Rattle.plan.specs.declared.refusal.Refusal.TheVariants.{BadNumber}
@@ -15,8 +16,10 @@ use Rattle.plan.specs.deciding.Output.{sheet_of, sheet_at, output_of, output_at,
 use Rattle.plan.specs.deciding.Reading.{read_list}
 use Rattle.plan.specs.calls.Lengths.{shortest_sheet, shortest_sheet_at}
 use Rattle.plan.specs.Demands.{ListRefused, RefusedAt, SheetFor, SheetForAt}
-use Rattle.sheet_call.specs.declared.GivenWay.{GivenWay}
-use Rattle.sheet_call.specs.declared.GivenWay.TheVariants.{By, NoWay}
+
+-- What a number given as a way stands for: a way, or none.
+abbrev pub GivenWay : Type 0
+GivenWay = Option Way
 
 -- ---- the number and the buffer
 
@@ -41,18 +44,18 @@ called_for sheet-of (accepted sites) buffer = sheet_in (length_given true (sheet
 
 -- For the bytes of a list, by a way, at the side found,
 abbrev pub called : GivenWay → List ℕ → List ℕ → Called
-called (By way) list buffer = called_for (sheet_of way) (to_place (read_list list)) buffer
-called NoWay list buffer = refusal BadNumber buffer
+called (Some way) list buffer = called_for (sheet_of way) (to_place (read_list list)) buffer
+called None list buffer = refusal BadNumber buffer
 
 -- and at a given side.
 abbrev pub called_at : GivenWay → Side → List ℕ → List ℕ → Called
-called_at (By way) side list buffer = called_for (sheet_at way side) (to_place_at side (exists_at way side) (read_list list)) buffer
-called_at NoWay side list buffer = refusal BadNumber buffer
+called_at (Some way) side list buffer = called_for (sheet_at way side) (to_place_at side (exists_at way side) (read_list list)) buffer
+called_at None side list buffer = refusal BadNumber buffer
 
 -- The numbers that stand for the ways: 1 for the usual one, 2 for above the spot only. No document has them; a number that is none is
 -- refused as a side outside the range is.
 abbrev pub way_of : ℕ → GivenWay
-way_of number = elim (eqb number 1) [ true ↦ By Usual | false ↦ elim (eqb number 2) [ true ↦ By Above | false ↦ NoWay ] ]
+way_of number = elim (eqb number 1) [ true ↦ Some Usual | false ↦ elim (eqb number 2) [ true ↦ Some Above | false ↦ None ] ]
 
 -- The number that stands for free, the greatest of 32 bits; every other stands for itself.
 abbrev pub free_number : ℕ
@@ -77,20 +80,20 @@ by_no_way shortest =
 
 -- At the side found: sheets have 18 bytes and more.
 abbrev pub at_found : GivenWay → List ℕ → Asked
-at_found (By way) list =
+at_found (Some way) list =
     record { Refused = ListRefused list; IsSheet = SheetFor way list; output = output_of way list; shortest = shortest_sheet }
-at_found NoWay list = by_no_way shortest_sheet
+at_found None list = by_no_way shortest_sheet
 
 -- At a given side: they have 15 and more.
 abbrev pub at_given : GivenWay → Side → List ℕ → Asked
-at_given (By way) side list =
+at_given (Some way) side list =
     record {
       Refused = RefusedAt way side list;
       IsSheet = SheetForAt way side list;
       output = output_at way side list;
       shortest = shortest_sheet_at;
     }
-at_given NoWay side list = by_no_way shortest_sheet_at
+at_given None side list = by_no_way shortest_sheet_at
 
 -- Why there is no sheet in this buffer, with the number: the list, the side or the way is refused, or the sheet is longer than the buffer.
 pub data CallRefused (asked : Asked) (buffer : List ℕ) : ℕ → Type 0 where

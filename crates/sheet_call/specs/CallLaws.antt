@@ -1,7 +1,7 @@
 -- What placing a list and writing its plan make of the list and a buffer, and what the number then tells: by a way or none, at the side
 -- found and at a given side.
 -- Assumes nothing.
-use Rattle.std.specs.Prelude.{◌≡◌, Bool, false, ◌&&◌, ◌⊎◌, ℕ, ◌≤◌, ◌<◌, leb, ltb, length, take, drop}
+use Rattle.std.specs.Prelude.{◌≡◌, None, Some, Ok, Err, Bool, false, ◌&&◌, ◌⊎◌, ℕ, ◌≤◌, ◌<◌, leb, ltb, length, take, drop}
 use Rattle.std.proofs.Math.Path.{refl, ap}
 use Rattle.std.proofs.Common.{sym, ◌∙◌, subst, inl, inr, arith, ltb-true, ne_eqb}
 use Rattle.std.proofs.Math.Bool.{true}
@@ -19,11 +19,6 @@ use Rattle.placing.specs.rules.Answer.{Answer, is_side, IsChosen}
 use Rattle.placing.specs.deciding.Answer.{answer_of, chosen_at}
 use Rattle.placing.specs.theorems.Given.{is-chosen-at}
 use Rattle.plan.specs.declared.plan.Plan.{Plan}
-use Rattle.plan.specs.declared.plan.Planned.{Planned}
-use Rattle.plan.specs.declared.plan.Written.{Written}
-use Rattle.plan.specs.declared.plan.Written.TheVariants.{Bytes, NotWritten}
-use Rattle.plan.specs.declared.refusal.Outcome.{Outcome}
-use Rattle.plan.specs.declared.refusal.Outcome.TheVariants.{Done, Refused}
 use Rattle.plan.specs.declared.refusal.Refusal.{Refusal}
 use Rattle.plan.specs.declared.refusal.Refusal.TheVariants.{BadNumber, ShortBuffer}
 use Rattle.plan.specs.rules.Refusal.{number_of, Result, accepted, refused, unless}
@@ -33,7 +28,7 @@ use Rattle.plan.specs.rules.Calls.{length_given, filled_with, bytes_after}
 use Rattle.plan.specs.deciding.Output.{sheet_of, sheet_at, output_for, output_of, output_at}
 use Rattle.plan.specs.calls.Lengths.{shortest_sheet, shortest_sheet_at}
 use Rattle.plan.specs.calls.Plan.{placed_with}
-use Rattle.plan.specs.calls.Answers.{started, handed, sheet_for, length_written, written_answer, written_in, buffer_after, list_placed, list_placed_at}
+use Rattle.plan.specs.calls.Answers.{Outcome, Written, Planned, started, handed, sheet_for, length_written, written_answer, written_in, buffer_after, list_placed, list_placed_at}
 use Rattle.plan.specs.Demands.{ListRefused, RefusedAt, SheetFor, SheetForAt}
 use Rattle.plan.specs.theorems.Tables.{number_small}
 use Rattle.plan.specs.theorems.Reading.{reads-are, read-listed}
@@ -50,9 +45,8 @@ use Rattle.plan.specs.theorems.Output.{
   is_placed_at,
   text-to-place-at,
 }
-use Rattle.sheet_call.specs.declared.GivenWay.{GivenWay}
-use Rattle.sheet_call.specs.declared.GivenWay.TheVariants.{By, NoWay}
 use Rattle.sheet_call.specs.Call.{
+  GivenWay,
   Called,
   refusal,
   sheet_in,
@@ -76,19 +70,24 @@ use Rattle.sheet_call.specs.Call.{
 
 -- What comes of a list that was placed, by the outcome: the refusal, or the sheet of the plan.
 abbrev pub planned_by : Outcome → Plan → List ℕ → Called
-planned_by Done plan buffer = sheet_in (length_written plan buffer) (sheet_for plan) buffer
-planned_by (Refused why) plan buffer = refusal why buffer
+planned_by (Ok done) plan buffer = sheet_in (length_written plan buffer) (sheet_for plan) buffer
+planned_by (Err why) plan buffer = refusal why buffer
 
 abbrev pub planned_in : Planned → List ℕ → Called
 planned_in planned buffer = planned_by planned.outcome planned.plan buffer
 
 -- What writing answers and leaves in the buffer, as the call gives it.
 abbrev pub as_called : Written → List ℕ → Called
-as_called (Bytes n) after = record { number = n; buffer = after }
-as_called (NotWritten why) after = refusal why after
+as_called (Ok n) after = record { number = n; buffer = after }
+as_called (Err why) after = refusal why after
+
+-- The number of what comes of writing.
+abbrev pub number_written : Written → ℕ
+number_written (Ok n) = n
+number_written (Err why) = number_of why
 
 -- Where the outcome is no refusal, that is what comes.
-pub write-calls : (planned : Planned) (buffer : List ℕ) {answer : Written} {after : List ℕ} → planned.outcome ≡ Done
+pub write-calls : (planned : Planned) (buffer : List ℕ) {answer : Written} {after : List ℕ} → planned.outcome ≡ Ok tt
     → answer ≡ written_in planned.plan buffer → after ≡ buffer_after planned.plan buffer → planned_in planned buffer ≡ as_called answer after
 write-calls planned buffer done answered left =
     ap (λ (o : Outcome). planned_by o planned.plan buffer) done
@@ -107,16 +106,6 @@ data Ready (asked : Asked) (way : Way) (answer-of : List Site → Answer) : Resu
   not_ready : {why : Refusal} → asked.Refused (number_of why) → Ready asked way answer-of (refused why)
   ready : {sites : List Site} → IsChosen way (places_of sites) (answer-of sites) → asked.IsSheet (sheet_with sites (answer-of sites))
       → asked.shortest ≤ length (sheet_with sites (answer-of sites)) → Ready asked way answer-of (accepted sites)
-
--- What the contract of a call says of a number and of the buffer afterwards.
-abbrev Meets : Asked → Called → (buffer : List ℕ) (number : ℕ) (after : List ℕ) → Type 0
-Meets asked called buffer number after = (number ≡ called.number) × ((after ≡ called.buffer) × Told asked buffer number after)
-
-abbrev pub MeetsFound : (list buffer : List ℕ) (number : ℕ) (after : List ℕ) → GivenWay → Type 0
-MeetsFound list buffer number after way = Meets (at_found way list) (called way list buffer) buffer number after
-
-abbrev pub MeetsGiven : Side → (list buffer : List ℕ) (number : ℕ) (after : List ℕ) → GivenWay → Type 0
-MeetsGiven side list buffer number after way = Meets (at_given way side list) (called_at way side list buffer) buffer number after
 
 -- Refusals have numbers up to 12.
 module _ (asked : Asked) (small : 12 < asked.shortest) (buffer : List ℕ) where
@@ -175,71 +164,73 @@ module _ (asked : Asked) (small : 12 < asked.shortest) (buffer : List ℕ) where
     calls-told output-is (ready {sites} chosen is-sheet long) = sheet-told (sheet-of sites) output-is is-sheet long
 
     -- It meets the contract.
-    planned-meets : {placing : Result (List Site)} {done : Planned} {number : ℕ} {after : List ℕ} → asked.output ≡ output_for sheet-of placing
-        → Ready asked way answer-of placing → done ≡ handed plan-of started placing
-        → number ≡ (planned_in done buffer).number → after ≡ (planned_in done buffer).buffer
-        → Meets asked (called_for sheet-of placing buffer) buffer number after
-    planned-meets {placing} output-is is-ready done-is number_is after_is =
-        let is = ap (λ (p : Planned). planned_in p buffer) done-is ∙ planned-calls is-ready in
-        let number-so = number_is ∙ ap (λ (c : Called). c.number) is in
-        let after-so = after_is ∙ ap (λ (c : Called). c.buffer) is in
-        (number-so, (after-so, rw (number-so, after-so) (calls-told output-is is-ready)))
+    planned-meets : {placing : Result (List Site)} → asked.output ≡ output_for sheet-of placing → Ready asked way answer-of placing
+        → (planned_in (handed plan-of started placing) buffer ≡ called_for sheet-of placing buffer)
+        × TellsOf (called_for sheet-of placing buffer)
+    planned-meets output-is is-ready = (planned-calls is-ready, calls-told output-is is-ready)
 
--- ---- the two calls
+-- ---- the two calls: what comes of placing a list and writing its plan, and what the number and the buffer then tell
 
 -- At the side found,
-pub call-meets : (way : Way) (list buffer : List ℕ) {done : Planned} {number : ℕ} {after : List ℕ} → done ≡ list_placed way list
-    → number ≡ (planned_in done buffer).number → after ≡ (planned_in done buffer).buffer
-    → MeetsFound list buffer number after (By way)
+pub call-meets : (way : Way) (list buffer : List ℕ)
+    → (planned_in (list_placed way list) buffer ≡ called (Some way) list buffer)
+    × Told (at_found (Some way) list) buffer (called (Some way) list buffer).number (called (Some way) list buffer).buffer
 unfolding sheet_of output_of
 call-meets way list buffer =
-    planned-meets (at_found (By way) list) (omega arith) buffer way (λ sites. answer_of way (places_of sites)) refl (by-sites (text-to-place list))
+    planned-meets (at_found (Some way) list) (omega arith) buffer way (λ sites. answer_of way (places_of sites)) refl (by-sites (text-to-place list))
   where
     by-sites : {placing : Result (List Site)} → ToPlace list placing
-        → Ready (at_found (By way) list) way (λ sites. answer_of way (places_of sites)) placing
+        → Ready (at_found (Some way) list) way (λ sites. answer_of way (places_of sites)) placing
     by-sites (not_placed reason) = not_ready reason
     by-sites (to_be_placed {sites} accepts) =
         let listed = read-listed list sites (reads-are accepts.read) in
         ready (answer-listed way sites listed) (sheet-for way list sites accepts) (sheet-shortest way sites listed accepts.some_sites)
 
 -- at a given side,
-pub call-meets-at : (way : Way) (side : Side) (list buffer : List ℕ) {done : Planned} {number : ℕ} {after : List ℕ}
-    → done ≡ list_placed_at way side list → number ≡ (planned_in done buffer).number → after ≡ (planned_in done buffer).buffer
-    → MeetsGiven side list buffer number after (By way)
+pub call-meets-at : (way : Way) (side : Side) (list buffer : List ℕ)
+    → (planned_in (list_placed_at way side list) buffer ≡ called_at (Some way) side list buffer)
+    × Told (at_given (Some way) side list) buffer (called_at (Some way) side list buffer).number (called_at (Some way) side list buffer).buffer
 unfolding sheet_at output_at chosen_at
 call-meets-at way side list buffer =
-    planned-meets (at_given (By way) side list) (omega arith) buffer way (λ sites. chosen_at way side (places_of sites)) refl
+    planned-meets (at_given (Some way) side list) (omega arith) buffer way (λ sites. chosen_at way side (places_of sites)) refl
     (by-sites (text-to-place-at way side list))
   where
     by-sites : {placing : Result (List Site)} → ToPlaceAt way side list placing
-        → Ready (at_given (By way) side list) way (λ sites. chosen_at way side (places_of sites)) placing
+        → Ready (at_given (Some way) side list) way (λ sites. chosen_at way side (places_of sites)) placing
     by-sites (not_placed_at reason) = not_ready reason
     by-sites (is_placed_at {sites} accepts chosen) =
         let listed = read-listed list sites (reads-are accepts.read) in
         ready chosen (sheet-for-at list sites accepts chosen) (sheet-shortest-at sites listed accepts.some_sites chosen)
 
 -- and without a way.
-no-way-meets : {number : ℕ} (shortest : ℕ) → 12 < shortest → (buffer : List ℕ) → number ≡ 3
-    → Meets (by_no_way shortest) (refusal BadNumber buffer) buffer number buffer
-no-way-meets shortest small buffer is =
-    (is, (refl, rw is (refusal-told (by_no_way shortest) small buffer BadNumber (is_refused refl))))
+pub no-way-told : (shortest : ℕ) → 12 < shortest → (buffer : List ℕ) → Told (by_no_way shortest) buffer 3 buffer
+no-way-told shortest small buffer = refusal-told (by_no_way shortest) small buffer BadNumber (is_refused refl)
 
-pub no-way-found : {number : ℕ} (list buffer : List ℕ) → number ≡ 3 → MeetsFound list buffer number buffer NoWay
-no-way-found list = no-way-meets shortest_sheet (omega arith)
+-- So the number of what comes of writing tells it, with the buffer.
+written-parts : (written : Written) (after : List ℕ)
+    → (number_written written ≡ (as_called written after).number) × (after ≡ (as_called written after).buffer)
+written-parts (Ok n) after = (refl, refl)
+written-parts (Err why) after = (refl, refl)
 
-pub no-way-given : {number : ℕ} (side : Side) (list buffer : List ℕ) → number ≡ 3 → MeetsGiven side list buffer number buffer NoWay
-no-way-given side list = no-way-meets shortest_sheet_at (omega arith)
+pub number-told : {asked : Asked} {buffer : List ℕ} {number : ℕ} (written : Written) (after : List ℕ) (call : Called)
+    → Told asked buffer call.number call.buffer → number ≡ number_written written → as_called written after ≡ call
+    → Told asked buffer number after
+number-told written after call told number_is is =
+    let parts = written-parts written after in
+    let number-so = number_is ∙ parts.0 ∙ ap (λ (c : Called). c.number) is in
+    let after-so = parts.1 ∙ ap (λ (c : Called). c.buffer) is in
+    rw (number-so, after-so) told
 
 -- ---- what the number tells
 
 -- From the shortest length on, the buffer starts with the sheet that the demands name, which is the output of the program: at the side
 -- found,
-pub told-sheet : {way : Way} {list buffer after : List ℕ} {number : ℕ} → Told (at_found (By way) list) buffer number after
+pub told-sheet : {way : Way} {list buffer after : List ℕ} {number : ℕ} → Told (at_found (Some way) list) buffer number after
     → shortest_sheet ≤ number → SheetFor way list (take number after) × (take number after ≡ output_of way list)
 told-sheet told long = (told.sheet long, told.same_output long)
 
 -- and at a given side;
-pub told-sheet-at : {way : Way} {side : Side} {list buffer after : List ℕ} {number : ℕ} → Told (at_given (By way) side list) buffer number after
+pub told-sheet-at : {way : Way} {side : Side} {list buffer after : List ℕ} {number : ℕ} → Told (at_given (Some way) side list) buffer number after
     → shortest_sheet_at ≤ number → SheetForAt way side list (take number after) × (take number after ≡ output_at way side list)
 told-sheet-at told long = (told.sheet long, told.same_output long)
 
@@ -253,14 +244,14 @@ refused-told {asked} {buffer} told short = (by-reason (told.refused short).0, (t
     by-reason (is_refused reason) = inl reason
     by-reason (short_buffer sheet longer) = inr (refl, (sheet, longer))
 
-pub told-refused : {way : Way} {list buffer after : List ℕ} {number : ℕ} → Told (at_found (By way) list) buffer number after
+pub told-refused : {way : Way} {list buffer after : List ℕ} {number : ℕ} → Told (at_found (Some way) list) buffer number after
     → number < shortest_sheet
     → (ListRefused list number ⊎ ((number ≡ 10) × (SheetFor way list (output_of way list) × (length buffer < length (output_of way list)))))
     × (after ≡ buffer)
 told-refused = refused-told
 
 pub told-refused-at : {way : Way} {side : Side} {list buffer after : List ℕ} {number : ℕ}
-    → Told (at_given (By way) side list) buffer number after → number < shortest_sheet_at
+    → Told (at_given (Some way) side list) buffer number after → number < shortest_sheet_at
     → (RefusedAt way side list number
     ⊎ ((number ≡ 10) × (SheetForAt way side list (output_at way side list) × (length buffer < length (output_at way side list)))))
     × (after ≡ buffer)
@@ -282,7 +273,7 @@ told-no-way shortest {buffer} {after} {number} told = by (dec_lt number shortest
 -- ---- the numbers that stand for no way or no side
 
 -- 1 is the usual way, 2 is above the spot only.
-pub ways-given : (way_of 1 ≡ By Usual) × (way_of 2 ≡ By Above)
+pub ways-given : (way_of 1 ≡ Some Usual) × (way_of 2 ≡ Some Above)
 ways-given = (refl, refl)
 
 -- The greatest number of 32 bits is free, and every other is so many half units.
@@ -300,8 +291,8 @@ no_way number list buffer not-usual not-above =
 -- and so is a side outside the range, whatever the way.
 side-refused : (way : GivenWay) (side : Side) (list buffer : List ℕ) → is_side side ≡ false
     → called_at way side list buffer ≡ refusal BadNumber buffer
-side-refused (By way) side list buffer outside = rw outside
-side-refused NoWay side list buffer outside = refl
+side-refused (Some way) side list buffer outside = rw outside
+side-refused None side list buffer outside = refl
 
 -- Such are the numbers below 1 and above 20,000, but for that of free.
 pub no-side : (way : GivenWay) (number : ℕ) (list buffer : List ℕ) → (number ≡ free_number → ⊥) → (number < 1) ⊎ (greatest_side < number)

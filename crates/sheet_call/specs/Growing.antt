@@ -1,14 +1,12 @@
 -- The call that tells how far two labels grow: what it gives and leaves for all numbers, over the definitions of crate growth.
 -- Assumes nothing.
-use Rattle.std.specs.Prelude.{true, false, ℕ, eqb}
+use Rattle.std.specs.Prelude.{true, false, ℕ, eqb, Ok, Err}
 use Rattle.placing.specs.declared.units.Growth.{Growth}
 use Rattle.placing.specs.declared.units.Growth.TheVariants.{UpTo, Never}
 use Rattle.placing.specs.declared.units.Place.{Place}
 use Rattle.placing.specs.rules.Growth.{Grows}
 use Rattle.placing.specs.deciding.Growth.{up_to}
-use Rattle.growth.specs.declared.AskedGrowth.{AskedGrowth}
-use Rattle.growth.specs.declared.AskedGrowth.TheVariants.{GrowthIs, NoGrowth}
-use Rattle.growth.specs.Asked.{HasLabel}
+use Rattle.growth.specs.Asked.{AskedGrowth, HasLabel}
 
 -- ---- the lent number
 
@@ -22,8 +20,8 @@ number_for Never = never_number
 
 -- What the call leaves in the lent number: refused, what was there.
 abbrev pub growth_left : AskedGrowth → ℕ → ℕ
-growth_left (GrowthIs growth) before = number_for growth
-growth_left (NoGrowth why) before = before
+growth_left (Ok growth) before = number_for growth
+growth_left (Err why) before = before
 
 -- ---- what the two numbers tell
 

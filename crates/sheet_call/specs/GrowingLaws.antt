@@ -8,8 +8,7 @@ use Rattle.placing.specs.declared.units.Place.{Place}
 use Rattle.placing.specs.rules.Label.{Meet}
 use Rattle.placing.specs.rules.Growth.{Grows, Exceeds}
 use Rattle.placing.specs.theorems.Growth.{growth-range, meet-beyond}
-use Rattle.growth.specs.declared.AskedGrowth.{AskedGrowth}
-use Rattle.growth.specs.Asked.{growth_asked_number, growth_asked, HasLabel, GrowthTold, told, told_3}
+use Rattle.growth.specs.Asked.{AskedGrowth, growth_asked_number, growth_asked, HasLabel, GrowthTold, told, told_3}
 use Rattle.growth.specs.AskedLaws.{asked-tells}
 use Rattle.sheet_call.specs.Growing.{never_number, number_for, growth_left, growth_from, GrowthCalled, gives_0, gives_3}
 

@@ -4,11 +4,10 @@ ghost use Rattle.plan.specs.rules.List.{place_at};
 ghost use Rattle.growth.specs.Asked.{growth_asked_number, growth_asked};
 ghost use Rattle.sheet_call.specs.Growing.{number_for, growth_left, GrowthCalled};
 
-use growth::{AskedGrowth, how_far};
+use growth::how_far;
 use placing::units::{Growth, Place, Units};
-use plan::refusal::number_of;
 
-// The number that stands for never.
+// The number that stands for never in C.
 const NEVER: u32 = 4_294_967_295;
 
 // The number that stands for a growth.
@@ -45,12 +44,11 @@ pub fn lemoncanyon_growth(
         ≡ growth_left (growth_asked (place_at x1 y1) corner1 (place_at x2 y2) corner2) growth.old }
     ensures told { GrowthCalled (place_at x1 y1) corner1 (place_at x2 y2) corner2 growth.old result growth.new }
 {
-    let asked = how_far(place_at(x1, y1), corner1, place_at(x2, y2), corner2);
-    match asked {
-        AskedGrowth::GrowthIs(told) => {
+    match how_far(place_at(x1, y1), corner1, place_at(x2, y2), corner2) {
+        Ok(told) => {
             *growth = number_for(told);
             0
         }
-        AskedGrowth::NoGrowth(why) => number_of(why) as u32,
+        Err(why) => u32::from(u8::from(why)),
     }
 }

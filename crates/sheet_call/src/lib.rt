@@ -6,28 +6,25 @@
 pub mod growing;
 
 ghost use Rattle.std.specs.Prelude.{◌≡◌};
-ghost use Rattle.plan.specs.calls.Plan.{Valid};
 ghost use Rattle.sheet_call.specs.Call.{called, called_at, side_of, way_of, at_found, at_given, Told};
-ghost use Rattle.sheet_call.specs.CallLaws.{planned_in};
+ghost use Rattle.sheet_call.specs.CallLaws.{as_called, number_written};
 
 use placing::units::{HalfUnits, Side};
 use placing::way::Way;
-use plan::output::{place_list, place_list_at};
-use plan::plan::{Planned, Written};
-use plan::refusal::{Outcome, Refusal, number_of};
-use plan::sheet::write;
+use plan::plan::Plan;
+use plan::refusal::Refusal;
 
-// The number that stands for free where a side is given.
+// The number that stands for free where a side is given. Sides, ways and refusals are numbers in C.
 const FREE: u32 = 4_294_967_295;
 
 // The side that a number stands for.
 fn side_of(number: u32) -> Side
     ensures { result ≡ side_of number }
 {
-    if number == FREE {
-        return Side::Free;
+    match number {
+        FREE => Side::Free,
+        _ => Side::Number(HalfUnits(number)),
     }
-    Side::Number(HalfUnits(number))
 }
 
 // The numbers that stand for the ways.
@@ -35,41 +32,44 @@ const USUAL: u32 = 1;
 
 const ABOVE: u32 = 2;
 
-// What a number given as a way stands for.
-#[derive(Clone, Copy)]
-enum GivenWay {
-    By(Way),
-    NoWay,
-}
-
 // The way that a number stands for.
-fn way_of(number: u32) -> GivenWay
+fn way_of(number: u32) -> Option<Way>
     ensures { result ≡ way_of number }
 {
-    if number == USUAL {
-        return GivenWay::By(Way::Usual);
+    match number {
+        USUAL => Some(Way::Usual),
+        ABOVE => Some(Way::Above),
+        _ => None,
     }
-    if number == ABOVE {
-        return GivenWay::By(Way::Above);
-    }
-    GivenWay::NoWay
 }
 
-// Writes the sheet of a list that was placed into the buffer and gives its length; or gives the number of the refusal.
-fn write_planned(planned: Planned, buffer: &mut [u8]) -> usize
-    requires { Valid planned.plan }
-    ensures answer { result ≡ (planned_in planned buffer.old).number }
-    ensures buffer { buffer.new ≡ (planned_in planned buffer.old).buffer }
+// Places a list by the way that a number stands for, and writes its sheet into the buffer.
+fn write_sheet(list: &[u8], way: u32, buffer: &mut [u8]) -> Result<usize, Refusal>
+    ensures { as_called result buffer.new ≡ called (way_of way) list.now buffer.old }
 {
-    let outcome = planned.outcome;
-    if let Outcome::Refused(why) = outcome {
-        return number_of(why) as usize;
-    }
-    let plan = planned.plan;
-    let written = write(plan, buffer);
+    let given = way_of(way).ok_or(Refusal::BadNumber)?;
+    let mut plan = Plan::start();
+    plan.place_list(list, given)?;
+    plan.write(buffer)
+}
+
+// The same at the side that a number stands for.
+fn write_sheet_at(list: &[u8], way: u32, side: u32, buffer: &mut [u8]) -> Result<usize, Refusal>
+    ensures { as_called result buffer.new ≡ called_at (way_of way) (side_of side) list.now buffer.old }
+{
+    let given = way_of(way).ok_or(Refusal::BadNumber)?;
+    let mut plan = Plan::start();
+    plan.place_list_at(list, given, side_of(side))?;
+    plan.write(buffer)
+}
+
+// The length of a sheet that was written, or the number of the refusal.
+fn number(written: Result<usize, Refusal>) -> usize
+    ensures { result ≡ number_written written }
+{
     match written {
-        Written::Bytes(n) => n,
-        Written::NotWritten(why) => number_of(why) as usize,
+        Ok(n) => n,
+        Err(why) => usize::from(u8::from(why)),
     }
 }
 
@@ -80,11 +80,7 @@ pub fn lemoncanyon_sheet(list: &[u8], way: u32, buffer: &mut [u8]) -> usize
     ensures buffer { buffer.new ≡ (called (way_of way) list.now buffer.old).buffer }
     ensures told { Told (at_found (way_of way) list.now) buffer.old result buffer.new }
 {
-    let GivenWay::By(given) = way_of(way) else {
-        return number_of(Refusal::BadNumber) as usize;
-    };
-    let placed = place_list(list, given);
-    write_planned(placed, buffer)
+    number(write_sheet(list, way, buffer))
 }
 
 // The same at a given side, in half units, or at free: the length of the sheet, or the number of the refusal, below 15. A number that
@@ -94,9 +90,5 @@ pub fn lemoncanyon_sheet_at(list: &[u8], way: u32, side: u32, buffer: &mut [u8])
     ensures buffer { buffer.new ≡ (called_at (way_of way) (side_of side) list.now buffer.old).buffer }
     ensures told { Told (at_given (way_of way) (side_of side) list.now) buffer.old result buffer.new }
 {
-    let GivenWay::By(given) = way_of(way) else {
-        return number_of(Refusal::BadNumber) as usize;
-    };
-    let placed = place_list_at(list, given, side_of(side));
-    write_planned(placed, buffer)
+    number(write_sheet_at(list, way, side, buffer))
 }

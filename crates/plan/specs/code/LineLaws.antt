@@ -31,7 +31,7 @@ use Rattle.plan.specs.code.Line.{NoByte, between, line_at, LineAt, LineEnds, ent
 -- ---- the bytes up to a byte
 
 -- The bytes of a text from a place on, at most k of them, before which none is this one.
-pub no-byte-before : {b : ℕ} {text : List ℕ} {at : ℕ} (k n : ℕ) → at ≤ length text → n ≤ length (take k (drop at text))
+no-byte-before : {b : ℕ} {text : List ℕ} {at : ℕ} (k n : ℕ) → at ≤ length text → n ≤ length (take k (drop at text))
     → AllWithin (λ c. c ≢ b) (take k (drop at text)) 0 n → NoByte b text at (at + n)
 no-byte-before {text = text} {at = at} k n inside few none =
     let size = length-drop at text in
@@ -116,21 +116,21 @@ FeedFound bytes found =
     (λ n. (n < length bytes) × HoldsAt (λ c. c ≡ line_feed) bytes n × AllWithin (λ c. c ≢ line_feed) bytes 0 n)
 
 -- Among as many bytes as a line may have and one more, it is the line's end.
-pub end-found : (text : List ℕ) (at : ℕ) {rest : List ℕ} → at ≤ length text → rest ≡ drop at text → (found : Option ℕ)
-    → FeedFound (take (most_line_bytes + 1) rest) found → LineEnds text at (option_map (λ n. at + n) found)
-end-found text at {rest} inside same found told =
-    by_found found (subst (λ (rest : List ℕ). FeedFound (take (most_line_bytes + 1) rest) found) same told)
+pub end-found : (text : List ℕ) (at k : ℕ) {rest : List ℕ} → most_line_bytes < k → k ≤ most_line_bytes + 1 → at ≤ length text → rest ≡ drop at text
+    → (found : Option ℕ) → FeedFound (take k rest) found → LineEnds text at (option_map (λ n. at + n) found)
+end-found text at k enough few inside same found told =
+    by_found found (subst (λ (rest : List ℕ). FeedFound (take k rest) found) same told)
   where
-    size : length (take (most_line_bytes + 1) (drop at text)) ≡ min (most_line_bytes + 1) (length text - at)
-    size = length-take (most_line_bytes + 1) (drop at text) ∙ ap (λ (n : ℕ). min (most_line_bytes + 1) n) (length-drop at text)
+    size : length (take k (drop at text)) ≡ min k (length text - at)
+    size = length-take k (drop at text) ∙ ap (λ (n : ℕ). min k n) (length-drop at text)
 
-    by_found : (found : Option ℕ) → FeedFound (take (most_line_bytes + 1) (drop at text)) found → LineEnds text at (option_map (λ n. at + n) found)
+    by_found : (found : Option ℕ) → FeedFound (take k (drop at text)) found → LineEnds text at (option_map (λ n. at + n) found)
     by_found None none = λ line first ended.
-        let later = feed-later (no-byte-before (most_line_bytes + 1) _ inside (omega arith) none) line first ended in
+        let later = feed-later (no-byte-before k _ inside (omega arith) none) line first ended in
         omega (arith, later, size)
-    by_found (Some n) (few, feed, none) =
-        line-here (no-byte-before (most_line_bytes + 1) n inside (omega arith) none) (omega (arith, size))
-        (sym (get_or-take (most_line_bytes + 1) (drop at text) n 0 (omega (arith, size)) ∙ get_or-drop at text n 0) ∙ feed 0) (omega (arith, size))
+    by_found (Some n) (short, feed, none) =
+        line-here (no-byte-before k n inside (omega arith) none) (omega (arith, size))
+        (sym (get_or-take k (drop at text) n 0 (omega (arith, size)) ∙ get_or-drop at text n 0) ∙ feed 0) (omega (arith, size))
 
 -- ---- the fields of a line
 

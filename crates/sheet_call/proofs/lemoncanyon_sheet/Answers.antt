@@ -1,19 +1,15 @@
--- The list is placed by the way given, at the side found, and written. Assumes nothing.
-use Rattle.std.proofs.Common.{sym, ◌∙◌, subst}
-use Rattle.sheet_call.specs.CallLaws.{MeetsFound, call-meets, no-way-found}
+-- What comes of writing the sheet is told. Assumes nothing.
+use Rattle.std.proofs.Common.{List, ℕ, Some, None, arith}
+use Rattle.sheet_call.specs.Call.{GivenWay, called, way_of, at_found, Told}
+use Rattle.sheet_call.specs.CallLaws.{call-meets, no-way-told, number-told}
 use Rattle.sheet_call.proofs.lemoncanyon_sheet.Goals as goal
 
-pub returns-in_default : goal.returns-in_default
-returns-in_default c =
-    let meets =
-    subst (MeetsFound c.args.list.now c.args.buffer.now c.number_of.result c.args.buffer.now) (sym c.in_default.is ∙ c.way_of.ensures)
-    (no-way-found c.args.list.now c.args.buffer.now c.number_of.ensures) in
-    record { answer = meets.0; buffer = meets.1.0; told = meets.1.1 }
+call-told : (way : GivenWay) (list buffer : List ℕ)
+    → Told (at_found way list) buffer (called way list buffer).number (called way list buffer).buffer
+call-told (Some way) list buffer = (call-meets way list buffer).1
+call-told None list buffer = no-way-told _ (omega arith) buffer
 
-pub returns : goal.returns
-returns c =
-    let meets =
-    subst (MeetsFound c.args.list.now c.args.buffer.now c.write_planned.result c.write_planned.new.buffer) c.in-By.ensures
-    (call-meets c.in-By.given c.args.list.now c.args.buffer.now c.place_list-placed.ensures.answer c.write_planned.ensures.answer
-    c.write_planned.ensures.buffer) in
-    record { answer = meets.0; buffer = meets.1.0; told = meets.1.1 }
+pub returns-clause-told : goal.returns-clause-told
+returns-clause-told c =
+    number-told c.write_sheet.result _ _ (call-told (way_of c.args.way) c.args.list.now c.args.buffer.now) c.number.ensures
+    c.write_sheet.ensures

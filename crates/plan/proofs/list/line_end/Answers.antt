@@ -9,21 +9,24 @@ use Rattle.plan.specs.code.LineLaws.{end-found}
 use Rattle.plan.proofs.list.line_end.Goals as goal
 use Rattle.plan.proofs.list.line_end.Goals.{After-position}
 
--- The line feed that is found is the line's end.
-ends : (c : After-position) → LineEnds c.args.text.now c.args.at (option_map (λ n. c.args.at + n) c.position.result)
-ends c =
+-- How many bytes are looked at.
+abbrev looked_at : ℕ
+looked_at = 21
+
+-- The line feed that is found among them is the line's end.
+ends : (c : After-position) {found : Option ℕ} → c.position.result ≡ found
+    → LineEnds c.args.text.now c.args.at (option_map (λ n. c.args.at + n) found)
+ends c was =
     let text = c.args.text.now in
-    end-found text c.args.at c.requires (between_to_end text c.args.at (length text) (omega arith)) c.position.result
+    subst (λ (found : Option ℕ). LineEnds text c.args.at (option_map (λ n. c.args.at + n) found)) was
+    (end-found text c.args.at looked_at (omega arith) (omega arith) c.requires (between_to_end text c.args.at (length text) (omega arith)) _
     (IsFirst-from_position _ _ _ (λ b. b ≡ line_feed) (λ b. b ≢ line_feed) c.position.ensures.ran
-    (YieldsList-from_take 21 (YieldsList-from_slice _ cc) (cc)) (λ x q k. search (rules, tests)) (λ x q k. search (rules, tests)))
+    (YieldsList-from_take looked_at (YieldsList-from_slice _ cc) (cc)) (λ x q k. search (rules, tests)) (λ x q k. search (rules, tests))))
 
 pub returns-in_err-n : goal.returns-in_err-n
 returns-in_err-n c =
-    rw c.from_residual.ensures
-    (subst (λ (found : Option ℕ). LineEnds c.args.text.now c.args.at (option_map (λ n. c.args.at + n) found)) c.in_err-n.was
-    (ends (goal.at.returns-in_err-n c).After-position))
+    rw c.from_residual.ensures (ends (goal.at.returns-in_err-n c).After-position c.in_err-n.was)
 
 pub returns : goal.returns
 returns c =
-    subst (λ (found : Option ℕ). LineEnds c.args.text.now c.args.at (option_map (λ n. c.args.at + n) found)) c.in_ok-n.was
-    (ends (goal.at.returns c).After-position)
+    ends (goal.at.returns c).After-position c.in_ok-n.was

@@ -1,5 +1,6 @@
 -- `Plan::admit` meets its contract: the plan holds its sites, so that what it finds taken is so. Assumes nothing.
-use Rattle.std.proofs.Common.{◌≡◌, Some, Ok, Err, sym, ◌∙◌, subst, arith}
+use Rattle.std.specs.Option.{is_some}
+use Rattle.std.proofs.Common.{◌≡◌, true, Some, Ok, Err, sym, ◌∙◌, subst, arith}
 use Rattle.plan.specs.declared.refusal.Refusal.TheVariants as why
 use Rattle.plan.specs.declared.plan.Plan.{Plan}
 use Rattle.plan.specs.calls.Plan.{sites_in}
@@ -11,10 +12,10 @@ use Rattle.plan.proofs.plan.Plan.admit.Goals as goal
 pub returns-then-n-ge-SITES-clause-answer : goal.returns-then-n-ge-SITES-clause-answer
 returns-then-n-ge-SITES-clause-answer c =
     let holding : Holding (plan_of c.self.inside) (sites_in (plan_of c.self.inside)) = valid-holding c.self.invariant in
-    let named : c.args.site.name ≡ Some c.in_ok-name.name = grind arith in
-    let spot : c.args.site.place ≡ Some c.in_ok-place.place = grind arith in
+    let named : is_some c.args.site.name ≡ true = grind arith in
+    let there : is_some c.args.site.place ≡ true = grind arith in
     subst (λ (p : Plan). Err why.Full ≡ admitted (sites_in p) c.args.site) c.self.view_is
-    (full_refused _ c.args.site named spot (omega (arith, holding.count)))
+    (full_refused _ c.args.site named there (omega (arith, holding.count)))
 
 pub returns-then-contains-clause-answer : goal.returns-then-contains-clause-answer
 returns-then-contains-clause-answer c =

@@ -4,11 +4,6 @@ use Rattle.placing.specs.code.Carry.{carried-meeting, carried-apart}
 use Rattle.placing.proofs.labels.Labels.carry_to.Goals as goal
 use Rattle.placing.proofs.labels.Labels.carry_to.Goals.{else-state-at-eq1-via-then-state-at-eq1+else-clash, else-state-at-eq1-via-else-state-at-eq1}
 
-pub clash-requires : goal.clash-requires
-clash-requires c =
-    let may = c.requires in
-    (rw may.label_is (c.args.self.now.held.in_range.in_range c.args.k may.from), may.to)
-
 pub returns-then-clash : goal.returns-then-clash
 returns-then-clash c =
     let may = c.requires in
@@ -20,7 +15,7 @@ returns c =
     let may = c.requires in
     elim c.else-state-at-eq1.branch [
       | else-state-at-eq1-via-then-state-at-eq1+else-clash w ↦
-        carried-apart may (λ is_open. (w.clash.ensures _ _ may.label_is may.toward_is).no_fails w.if-clash.false)
+          carried-apart may (λ is_open. (w.clash.ensures _ _ may.label_is may.toward_is).no_fails w.if-clash.false)
       | else-state-at-eq1-via-else-state-at-eq1 w ↦
-        carried-apart may (λ is_open. absurd (w.if-state-at-eq1.false (rw c.index_of-at.ensures is_open)))
+          carried-apart may (λ is_open. absurd (w.if-state-at-eq1.false (rw c.index_of-at.ensures is_open)))
     ]

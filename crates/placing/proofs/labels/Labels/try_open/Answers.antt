@@ -23,10 +23,6 @@ try_corner-requires c =
       is_open = row_next _ c.args.i c.args.e c.requires.1 ∙ c.if-state-at-eq1.true;
     }
 
-pub returns-then-state-at-eq1 : goal.returns-then-state-at-eq1
-returns-then-state-at-eq1 c =
-    c.try_corner.ensures
-
 pub returns-else-state-at-eq1 : goal.returns-else-state-at-eq1
 returns-else-state-at-eq1 c =
     let shut = c.if-state-at-eq1.false in

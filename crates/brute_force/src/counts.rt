@@ -84,6 +84,7 @@ impl fmt::Display for Tally {
     }
 }
 
+// Display is not ours to give, since the type is of placing.
 pub fn name_of(way: Way) -> &'static str {
     match way {
         Way::Usual => "usual way",

@@ -142,6 +142,7 @@ impl Rules {
 
     // Of all lists of corners with a limit above `floor`, the first with the greatest limit.
     fn best(self, labels: &mut [Label], floor: Side) -> Option<Choice> {
+        // A loop, since each list of corners is set in the same labels, and counts against the best before it.
         let mut best = None;
         let mut most = floor;
         for number in 0..self.count(labels) {
@@ -181,6 +182,7 @@ pub fn enumerate_at(
 ) -> Result<Answer, AllocError> {
     let rules = Rules::of(way);
     let mut labels = labels_of(alloc, sites, &FIRST)?;
+    // A loop, since each list of corners is set in the labels that are the answer.
     for number in 0..rules.count(&labels) {
         rules.set_corners(&mut labels, number);
         if rules.all_limits(&labels, |limit| limit >= side) {

@@ -2,7 +2,7 @@
 use crate::sites::Place;
 use std::alloc::{AllocError, Global};
 
-// The place of a site and the corner of its label.
+// The place of a site and the corner of its label: a number, since the rules number the corners, 1 to 4, and order choices by them.
 #[derive(Clone, Copy)]
 pub struct Label {
     pub place: Place,

@@ -116,6 +116,7 @@ pub fn draw_sites(alloc: Global, random: &mut Random) -> Result<Vec<Place>, Allo
     let count = random.up_to(6) as usize + 1;
     let frame = draw_frame(random);
     let mut sites = Vec::new(alloc);
+    // A loop, since a push can fail.
     for _ in 0..DRAWS {
         let place = draw_place(random, frame);
         if sites.len() < count && !sites.contains(&place) {

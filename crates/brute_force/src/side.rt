@@ -1,7 +1,7 @@
 // Sides, in half units.
 use std::fmt;
 
-// A side; as a limit, the greatest side that a rule allows. Free, where no side is too large, is the greatest.
+// A side; as a limit, the greatest side that a rule allows. Free, where no side is too large, is the greatest, so this is no Option.
 #[derive(Clone, Copy, PartialEq, Eq, PartialOrd, Ord)]
 pub enum Side {
     Number(u64),

@@ -2,7 +2,7 @@
 use crate::limits::limit;
 use crate::names::accepted_names;
 use crate::question::Question;
-use crate::quoted::Quoted;
+use crate::quoted::quoted;
 use placing::units::Side;
 use placing::way::Way;
 use plan::limits::TextLimits;
@@ -36,15 +36,16 @@ impl fmt::Display for Size {
 fn answered<T: fmt::Display + Drop>(
     alloc: Global,
     answer: Result<T, Refusal>,
-) -> Result<String, AllocError> {
-    match answer {
-        Ok(value) => format!(in alloc; "{value}"),
-        Err(why) => format!(in alloc; "refused {}", u8::from(why)),
-    }
+) -> Result<Vec<u8>, AllocError> {
+    let words = match answer {
+        Ok(value) => format!(in alloc; "{value}")?,
+        Err(why) => format!(in alloc; "refused {}", u8::from(why))?,
+    };
+    Ok(words.into_bytes())
 }
 
 // The answer of a call that gives nothing.
-fn accepted(alloc: Global, answer: Result<(), Refusal>) -> Result<String, AllocError> {
+fn accepted(alloc: Global, answer: Result<(), Refusal>) -> Result<Vec<u8>, AllocError> {
     answered(alloc, answer.map(|_| "accepted"))
 }
 
@@ -54,13 +55,13 @@ fn whole_output(
     text: &[u8],
     way: Way,
     given: Option<Side>,
-) -> Result<String, AllocError> {
+) -> Result<Vec<u8>, AllocError> {
     let mut buffer = [0u8; TextLimits::SHEET];
     let n = match given {
         Some(side) => output_at(text, way, side, &mut buffer),
         None => output(text, way, &mut buffer),
     };
-    Quoted(&buffer[..n]).to_string(alloc)
+    quoted(alloc, &buffer[..n])
 }
 
 impl State {
@@ -77,10 +78,10 @@ impl State {
         self.plan.choose_at(way, side, &mut self.lent)
     }
 
-    // The answer to a question. The bytes that it lends come as hyphens.
-    pub fn answer(&mut self, alloc: Global, question: &Question) -> Result<String, AllocError> {
+    // The answer to a question. The bytes that it lends come as hyphens, and are no more than a full plan's work table.
+    pub fn answer(&mut self, alloc: Global, question: &Question) -> Result<Vec<u8>, AllocError> {
         if let Some(bytes) = question.lends() {
-            self.lent = vec![in alloc; b'-'; bytes]?;
+            self.lent = vec![in alloc; b'-'; bytes.min(TextLimits::TABLE)]?;
         }
         match question {
             Question::Enter { name, x, y } => accepted(alloc, self.plan.enter(name, *x, *y)),
@@ -94,12 +95,12 @@ impl State {
             Question::Place { way, .. } => accepted(alloc, self.place(*way)),
             Question::Side => answered(alloc, self.plan.side().map(Size)),
             Question::Corner(i) => answered(alloc, self.plan.corner(*i)),
-            Question::Count => self.plan.count().to_string(alloc),
+            Question::Count => answered(alloc, Ok(self.plan.count())),
             Question::Write(_) => answered(alloc, self.plan.write(&mut self.lent)),
             Question::Output { way, given, text } => whole_output(alloc, text, *way, *given),
-            Question::Lent => Quoted(&self.lent).to_string(alloc),
-            Question::Limit(name) => limit(name).to_string(alloc),
-            Question::Names => Quoted(&accepted_names(alloc)?).to_string(alloc),
+            Question::Lent => quoted(alloc, &self.lent),
+            Question::Limit(name) => answered(alloc, Ok(limit(name))),
+            Question::Names => quoted(alloc, &accepted_names(alloc)?),
         }
     }
 }

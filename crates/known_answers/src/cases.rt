@@ -1,10 +1,11 @@
 // Cases: each is asked, printed as a line and counted.
 use crate::calls::State;
+use crate::parts::{behind_one, split_once};
 use crate::question::Question;
 use std::alloc::{AllocError, Global};
 use std::io;
 
-// How many cases were asked, and how many came right. A count would stop only at 2^64 cases.
+// How many cases were asked, and how many came right. A count would stop at the greatest number, so that nothing is asked of it.
 #[derive(Clone, Copy, Default)]
 struct Tally {
     asked: u64,
@@ -18,12 +19,17 @@ impl Tally {
     }
 }
 
+// So many bytes of an answer are shown and judged.
+const MOST_ANSWER: usize = 512;
+
 // The answer to a question.
-fn answer_to(alloc: Global, state: &mut State, question: &str) -> Result<String, AllocError> {
-    match Question::parse(alloc, question)? {
-        Some(question) => state.answer(alloc, &question),
-        None => String::from_str(alloc, "no such call"),
-    }
+fn answer_to(alloc: Global, state: &mut State, question: &[u8]) -> Result<Vec<u8>, AllocError> {
+    let mut answer = match Question::parse(alloc, question)? {
+        Some(question) => state.answer(alloc, &question)?,
+        None => Vec::from_slice(alloc, b"no such call")?,
+    };
+    answer.truncate(MOST_ANSWER);
+    Ok(answer)
 }
 
 // Asks a question, and prints and counts whether its answer is the one that should come.
@@ -31,29 +37,46 @@ fn ask(
     rt: &(impl Print + AllocGlobal),
     state: &mut State,
     tally: &mut Tally,
-    question: &str,
-    should: &str,
+    question: &[u8],
+    should: &[u8],
 ) -> io::Result<()> {
     let came = answer_to(rt.alloc(), state, question)?;
-    let right = came.as_str() == should;
+    let right = came.as_slice() == should;
     tally.count(right);
-    print!(rt; "{question} = {came}\t")?;
+    rt.write_all(question)?;
+    print!(rt; "= ")?;
+    rt.write_all(&came)?;
     if right {
-        println!(rt; "right")
-    } else {
-        println!(rt; "WRONG, should be {should}")
+        return println!(rt; "\tright");
+    }
+    print!(rt; "\tWRONG, should be ")?;
+    rt.write_all(should)?;
+    println!(rt)
+}
+
+// Asks the question of a line, or prints a line that has none.
+fn ask_line(
+    rt: &(impl Print + AllocGlobal),
+    state: &mut State,
+    tally: &mut Tally,
+    line: &[u8],
+) -> io::Result<()> {
+    match split_once(line, b'=') {
+        Some((question, behind)) => ask(rt, state, tally, question, behind_one(behind)),
+        None => {
+            rt.write_all(line)?;
+            println!(rt)
+        }
     }
 }
 
 // Goes through the cases.
-pub fn ask_all(rt: &(impl Print + AllocGlobal), cases: &str) -> io::Result<()> {
+pub fn ask_all(rt: &(impl Print + AllocGlobal), cases: &[u8]) -> io::Result<()> {
     let mut state = State::new(rt.alloc());
     let mut tally = Tally::default();
-    for line in cases.lines() {
-        match line.split_once(" = ") {
-            Some((question, should)) => ask(rt, &mut state, &mut tally, question, should)?,
-            None => println!(rt; "{line}")?,
-        }
+    for line in cases.split_inclusive(|b| *b == b'\n') {
+        let line = line.strip_suffix(b"\n").unwrap_or(line);
+        ask_line(rt, &mut state, &mut tally, line)?;
     }
     println!(rt; "{} cases, {} right", tally.asked, tally.right)
 }

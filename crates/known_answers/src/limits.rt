@@ -3,7 +3,7 @@ use placing::units::Limits;
 use plan::limits::TextLimits;
 use plan::name::Name;
 
-// The limit of this name, 0 where it is none.
+// The limit of this name, 0 where it is none. The names stand here alone, so that they are matched as text.
 pub fn limit(name: &[u8]) -> u64 {
     match name {
         b"sites" => Limits::SITES as u64,

@@ -3,8 +3,9 @@
 // size, `choose-number` the side as a number, in range or not. The text of `output-at` has the word of a side and a space in front.
 // These, and `output`, are asked by the usual way of placing, and above where the word `above` stands in front of the call. Anywhere
 // else, or in front of another call, that word makes the call an unknown one.
+use crate::parts::{behind_one, numbers_in, split_or_all};
 use crate::quoted::unquoted;
-use crate::sites::lines;
+use crate::sites::{LINES, lines};
 use placing::units::{HalfUnits, Side};
 use placing::way::Way;
 use plan::number::side_from;
@@ -45,30 +46,24 @@ pub enum Question {
     Names,
 }
 
-// A question taken apart: the word of the call, the text between quotes where there is one, and the numbers, 0 where there is none.
+// A question taken apart: the word of the call, the text between quotes where there is one, and the numbers. A
+// missing one is 0: the calls make no difference between the two.
 #[derive(Clone, Copy)]
 struct Words<'a> {
-    call: &'a str,
-    quoted: Option<&'a str>,
+    call: &'a [u8],
+    quoted: Option<&'a [u8]>,
     numbers: [u64; 2],
 }
 
-// Up to two numbers, parted by spaces; none where another word is among them.
-fn numbers_in(text: &str) -> Option<[u64; 2]> {
-    let mut numbers = [0; 2];
-    for (i, word) in text.split_whitespace().enumerate() {
-        *numbers.get_mut(i)? = word.parse::<u64>().ok()?;
-    }
-    Some(numbers)
-}
-
 impl Words<'_> {
-    fn split(question: &str) -> Option<Words<'_>> {
-        let (call, behind) = question.split_once(' ').unwrap_or((question, ""));
-        let (quoted, behind) = match behind.strip_prefix('"') {
+    // None where another word stands among the numbers. A quote that is not closed has all that is left, and what stands next behind one
+    // that is closed parts it from the numbers.
+    fn split(question: &[u8]) -> Option<Words<'_>> {
+        let (call, behind) = split_or_all(question, b' ');
+        let (quoted, behind) = match behind.strip_prefix(b"\"") {
             Some(opened) => {
-                let (quoted, behind) = opened.split_once('"')?;
-                (Some(quoted), behind)
+                let (quoted, behind) = split_or_all(opened, b'"');
+                (Some(quoted), behind_one(behind))
             }
             None => (None, behind),
         };
@@ -80,41 +75,42 @@ impl Words<'_> {
         })
     }
 
+    // The text, which has no more bytes than the lines of the sites.
     fn text(&self, alloc: Global) -> Result<Vec<u8>, AllocError> {
         match self.quoted {
-            Some(quoted) => unquoted(alloc, quoted),
+            Some(quoted) => unquoted(alloc, quoted, LINES),
             None => lines(alloc, self.numbers[0] as usize),
         }
     }
 
-    // The question, where the call takes a way of placing.
+    // The question, where the call takes a way of placing. The words of the calls stand here alone, so that they are matched as text.
     fn placing(&self, alloc: Global, way: Way) -> Result<Option<Question>, AllocError> {
         let [a, b] = self.numbers;
         Ok(Some(match self.call {
-            "find" => Question::Find {
+            b"find" => Question::Find {
                 way,
                 table: a as usize,
             },
-            "choose" => Question::Choose {
+            b"choose" => Question::Choose {
                 way,
                 side: side_from(&self.text(alloc)?),
                 table: a as usize,
             },
-            "choose-number" => Question::Choose {
+            b"choose-number" => Question::Choose {
                 way,
                 side: numbered(a),
                 table: b as usize,
             },
-            "place" => Question::Place {
+            b"place" => Question::Place {
                 way,
                 table: a as usize,
             },
-            "output" => Question::Output {
+            b"output" => Question::Output {
                 way,
                 given: None,
                 text: self.text(alloc)?,
             },
-            "output-at" => output_at(alloc, way, self.quoted.unwrap_or(""))?,
+            b"output-at" => output_at(alloc, way, &self.text(alloc)?)?,
             _ => return Ok(None),
         }))
     }
@@ -123,19 +119,19 @@ impl Words<'_> {
     fn other(&self, alloc: Global) -> Result<Option<Question>, AllocError> {
         let [a, b] = self.numbers;
         Ok(Some(match self.call {
-            "enter" => Question::Enter {
+            b"enter" => Question::Enter {
                 name: self.text(alloc)?,
                 x: a,
                 y: b,
             },
-            "read" => Question::Read(self.text(alloc)?),
-            "side" => Question::Side,
-            "corner" => Question::Corner(a as usize),
-            "count" => Question::Count,
-            "write" => Question::Write(a as usize),
-            "lent" => Question::Lent,
-            "limit" => Question::Limit(self.text(alloc)?),
-            "names" => Question::Names,
+            b"read" => Question::Read(self.text(alloc)?),
+            b"side" => Question::Side,
+            b"corner" => Question::Corner(a as usize),
+            b"count" => Question::Count,
+            b"write" => Question::Write(a as usize),
+            b"lent" => Question::Lent,
+            b"limit" => Question::Limit(self.text(alloc)?),
+            b"names" => Question::Names,
             _ => return Ok(None),
         }))
     }
@@ -147,12 +143,12 @@ fn numbered(number: u64) -> Side {
 }
 
 // The list stands behind the word of a side and a space.
-fn output_at(alloc: Global, way: Way, quoted: &str) -> Result<Question, AllocError> {
-    let (side, list) = quoted.split_once(' ').unwrap_or((quoted, ""));
+fn output_at(alloc: Global, way: Way, text: &[u8]) -> Result<Question, AllocError> {
+    let (side, list) = split_or_all(text, b' ');
     Ok(Question::Output {
         way,
-        given: Some(side_from(side.as_bytes())),
-        text: unquoted(alloc, list)?,
+        given: Some(side_from(side)),
+        text: Vec::from_slice(alloc, list)?,
     })
 }
 
@@ -169,8 +165,8 @@ impl Question {
     }
 
     // The question of these words; none where no such call is asked.
-    pub fn parse(alloc: Global, question: &str) -> Result<Option<Question>, AllocError> {
-        let above = question.strip_prefix("above ");
+    pub fn parse(alloc: Global, question: &[u8]) -> Result<Option<Question>, AllocError> {
+        let above = question.strip_prefix(b"above ");
         let Some(words) = Words::split(above.unwrap_or(question)) else {
             return Ok(None);
         };

@@ -1,24 +1,25 @@
 // Text in quotes, as the cases have it.
 use std::alloc::{AllocError, Global};
-use std::fmt;
+use std::{iter, slice};
 
-// Prints bytes in quotes, with a zero, a tab and a line feed made visible.
-#[derive(Clone, Copy)]
-pub struct Quoted<'a>(pub &'a [u8]);
-
-impl fmt::Display for Quoted<'_> {
-    fn fmt<W: fmt::Write>(&self, f: &mut fmt::Formatter<W>) -> fmt::Result {
-        write!(f, "\"")?;
-        for byte in self.0 {
-            match byte {
-                b'\0' => write!(f, "\\0")?,
-                b'\t' => write!(f, "\\t")?,
-                b'\n' => write!(f, "\\n")?,
-                _ => write!(f, "{}", char::from(*byte))?,
-            }
-        }
-        write!(f, "\"")
+// A byte as it is shown: a zero, a tab and a line feed are made visible.
+fn visible(byte: &u8) -> &[u8] {
+    match byte {
+        b'\0' => b"\\0",
+        b'\t' => b"\\t",
+        b'\n' => b"\\n",
+        _ => slice::from_ref(byte),
     }
+}
+
+// Bytes in quotes. They may be no text, so that this is no Display.
+pub fn quoted(alloc: Global, bytes: &[u8]) -> Result<Vec<u8>, AllocError> {
+    let mut shown = vec![in alloc; b'"']?;
+    for byte in bytes {
+        shown.extend_from_slice(visible(byte))?;
+    }
+    shown.push(b'"')?;
+    Ok(shown)
 }
 
 // What the byte behind a backslash stands for.
@@ -32,19 +33,13 @@ fn escaped(byte: u8) -> u8 {
     }
 }
 
-// The bytes that a text between quotes stands for.
-pub fn unquoted(alloc: Global, text: &str) -> Result<Vec<u8>, AllocError> {
-    let mut bytes = Vec::new(alloc);
-    let mut behind = false;
-    for byte in text.bytes() {
-        if behind {
-            bytes.push(escaped(byte))?;
-            behind = false;
-        } else if byte == b'\\' {
-            behind = true;
-        } else {
-            bytes.push(byte)?;
-        }
-    }
-    Ok(bytes)
+// The bytes that a text between quotes stands for, so many at most.
+pub fn unquoted(alloc: Global, text: &[u8], most: usize) -> Result<Vec<u8>, AllocError> {
+    let mut rest = text.iter();
+    iter::from_fn(|| match *rest.next()? {
+        b'\\' => rest.next().map(|byte| escaped(*byte)),
+        byte => Some(byte),
+    })
+    .take(most)
+    .collect(alloc)
 }

@@ -4,6 +4,9 @@ use std::alloc::{AllocError, Global};
 // More sites than a list can have.
 const SITES: u32 = 270;
 
+// How many bytes their lines have, 19 each.
+pub const LINES: usize = 19 * SITES as usize;
+
 // The first so many bytes of the lines of these sites.
 pub fn lines(alloc: Global, bytes: usize) -> Result<Vec<u8>, AllocError> {
     let mut text = String::new(alloc);

@@ -15,7 +15,7 @@ use placing::units::{HalfUnits, Limits, Place, Side, Units};
 pub(crate) fn coordinate_at(n: u64) -> Option<Units>
     ensures { result ≡ coordinate_read (some n) }
 {
-    if n > Limits::COORDINATE as u64 {
+    if n > u64::from(Limits::COORDINATE) {
         return None;
     }
     Some(Units(n as u32))

@@ -4,7 +4,6 @@ ghost use Rattle.plan.specs.rules.Refusal.{number_of};
 ghost use Rattle.plan.specs.rules.Sheet.{refusal_line};
 ghost use Rattle.plan.specs.rules.Calls.{filled_with};
 ghost use Rattle.plan.specs.deciding.Output.{output_of, output_at};
-ghost use Rattle.plan.specs.calls.Plan.{Valid};
 ghost use Rattle.plan.specs.calls.Answers.{list_placed, list_placed_at};
 ghost use Rattle.plan.specs.calls.Lengths.{longest_refusal_line};
 ghost use Rattle.plan.specs.code.Put.{Put};

@@ -5,7 +5,7 @@ ghost use Rattle.placing.specs.rules.Corner.{Corner};
 ghost use Rattle.plan.specs.rules.Refusal.{number_by};
 ghost use Rattle.plan.specs.rules.Text.{most_name_bytes};
 ghost use Rattle.plan.specs.rules.Calls.{write_tests};
-ghost use Rattle.plan.specs.calls.Plan.{sites_in, Valid};
+ghost use Rattle.plan.specs.calls.Plan.{sites_in};
 ghost use Rattle.plan.specs.calls.Answers.{sheet_for, written_in, buffer_after, written_length, carried_at};
 ghost use Rattle.plan.specs.calls.Lengths.{longest_side_line, longest_site_line, longest_sheet};
 ghost use Rattle.plan.specs.code.Taken.{site_of};

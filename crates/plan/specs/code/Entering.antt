@@ -19,7 +19,7 @@ use Rattle.plan.specs.declared.refusal.Refusal.{Refusal}
 use Rattle.plan.specs.declared.refusal.Refusal.TheVariants as why
 use Rattle.plan.specs.rules.Refusal.{Test, first_refusal, Result, accepted, refused, unless, after_tests}
 use Rattle.plan.specs.rules.Text.{most_name_bytes, is_name, or_zero}
-use Rattle.plan.specs.rules.List.{Site, Listed, place_at, name_taken, place_taken, ByRules, Wanted, enter_tests, with_site, entered, is_coordinate, wanted_of}
+use Rattle.plan.specs.rules.List.{Site, Listed, place_at, name_taken, place_taken, ByRules, Wanted, enter_tests, entered, is_coordinate, wanted_of}
 use Rattle.plan.specs.calls.Plan.{unplaced_plan, name_of, name_held, Valid}
 use Rattle.plan.specs.calls.Answers.{handed, Outcome, Planned}
 use Rattle.plan.specs.theorems.Plan.{Holding}
@@ -121,27 +121,16 @@ module _ (sites : List Site) (read : SiteRead) {name : Name} {place : Place} (na
 
 -- ---- laws: what is admitted can be entered
 
-result-refused : {A : Type 0} (first : maybe.Option Refusal) (value : A) {why : Refusal} → result_of first value ≡ Err why → first ≡ some why
-result-refused none value is = cc
-result-refused (some other) value is = cc
-
 result-value : {A : Type 0} (first : maybe.Option Refusal) (value : A) {other : A} → result_of first value ≡ Ok other → (first ≡ none) × (value ≡ other)
 result-value none value is = (refl, cc)
 result-value (some why) value is = cc
 
-module _ (sites : List Site) (read : SiteRead) where
-  -- Refused, entering is refused too;
-  pub admitted-refused : {why : Refusal} → admitted sites read ≡ Err why → entered sites (wanted_read read) ≡ refused why
-  admitted-refused is =
-      ap (λ (first : maybe.Option Refusal). unless first (with_site sites (wanted_read read)))
-      (result-refused (first_refusal (enter_tests sites (wanted_read read))) _ is)
-
-  -- admitted, no test holds, and the name and the place are those that were read.
-  admitted-passes : {name : Name} {place : Place} → admitted sites read ≡ Ok (name, place)
-      → Passed sites (wanted_read read) × (name_of_read read ≡ name) × (place_of_read read ≡ place)
-  admitted-passes is =
-      let told = result-value (first_refusal (enter_tests sites (wanted_read read))) _ is in
-      (tests-passed told.0, ap (λ (p : Name × Place). p.0) told.1, ap (λ (p : Name × Place). p.1) told.1)
+-- Admitted, no test holds, and the name and the place are those that were read.
+admitted-passes : (sites : List Site) (read : SiteRead) {name : Name} {place : Place} → admitted sites read ≡ Ok (name, place)
+    → Passed sites (wanted_read read) × (name_of_read read ≡ name) × (place_of_read read ≡ place)
+admitted-passes sites read is =
+    let told = result-value (first_refusal (enter_tests sites (wanted_read read))) _ is in
+    (tests-passed told.0, ap (λ (p : Name × Place). p.0) told.1, ap (λ (p : Name × Place). p.1) told.1)
 
 -- What was read of a name is padded, and by the rules where it is there; so is a place.
 read-padded : (read : Option Name) → NameFits read → Padded (unwrap_or read no_name)

@@ -31,7 +31,7 @@ use Rattle.plan.specs.code.Line.{NoByte, between, line_at, LineAt, LineEnds, ent
 -- ---- the bytes up to a byte
 
 -- The bytes of a text from a place on, at most k of them, before which none is this one.
-pub no-byte-before : {b : ℕ} {text : List ℕ} {at : ℕ} (k n : ℕ) → at ≤ length text → n ≤ length (take k (drop at text))
+no-byte-before : {b : ℕ} {text : List ℕ} {at : ℕ} (k n : ℕ) → at ≤ length text → n ≤ length (take k (drop at text))
     → AllWithin (λ c. c ≢ b) (take k (drop at text)) 0 n → NoByte b text at (at + n)
 no-byte-before {text = text} {at = at} k n inside few none =
     let size = length-drop at text in

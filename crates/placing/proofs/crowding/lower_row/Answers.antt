@@ -10,22 +10,6 @@ pub loop-j-init : goal.loop-j-init
 loop-j-init c =
     (omega arith, row-starts refl c.requires.2)
 
-pub lower_pair-requires : goal.lower_pair-requires
-lower_pair-requires c =
-    let held = c.requires.0 in
-    record {
-      size = c.loop-j.invariant.1.size;
-      inside = omega (arith, held.few);
-      other_inside = omega (arith, held.few);
-      on_plan = held.in_range.in_range c.args.i c.requires.1;
-      other_on_plan = held.in_range.in_range c.loop-j.j c.loop-j-test.true;
-      judged = record { judged = held.judged };
-    }
-
-pub overflow_step-j-in-loop-j : goal.overflow_step-j-in-loop-j
-overflow_step-j-in-loop-j c =
-    omega (arith, c.requires.0.few)
-
 pub loop-j-preserved : goal.loop-j-preserved
 loop-j-preserved c =
     (omega arith, over-pair c.loop-j.invariant.0 c.loop-j-test.true c.loop-j.invariant.1 c.lower_pair.ensures)

@@ -6,17 +6,8 @@ use Prim.Native.Nat.{◌+◌, ◌*◌}
 use Rattle.placing.specs.code.Filled.{filled_none, filled_more}
 use Rattle.placing.proofs.crowding.lower_site.Goals as goal
 
-pub loop-e-init : goal.loop-e-init
-loop-e-init c =
-    filled_none
-
 pub loop-e-preserved : goal.loop-e-preserved
 loop-e-preserved c =
     let so_far = c.loop-e.invariant in
     let same = so_far.later (4 * c.args.i + c.loop-e.e) (omega arith) in
     filled_more so_far (omega arith) (rw same at c.lowered-reach.ensures)
-
-pub returns : goal.returns
-returns c =
-    let end : c.loop-e.e ≡ 4 = omega arith in
-    rw end at c.loop-e.invariant

@@ -5,14 +5,6 @@ use Rattle.placing.specs.code.Filled.{filled_none, filled_next}
 use Rattle.placing.specs.code.Crowding.{crowding-above}
 use Rattle.placing.proofs.crowding.upper_corners.Goals as goal
 
-pub loop-at-init : goal.loop-at-init
-loop-at-init c =
-    filled_none
-
-pub loop-at-preserved : goal.loop-at-preserved
-loop-at-preserved c =
-    filled_next c.loop-at.invariant (omega arith) c.upper_reach.ensures
-
 pub returns : goal.returns
 returns c =
     crowding-above _ c.doubled-furthest.ensures (omega arith) c.loop-at.invariant

@@ -8,7 +8,7 @@ mod text;
 mod usage;
 mod write;
 
-use crate::asked::LabelWords;
+use crate::asked::SixWords;
 use crate::usage::tell_usage;
 use crate::write::write_growth;
 use desk::{tell, word_count};
@@ -18,9 +18,8 @@ fn main(rt: HostRuntime) {
         tell_usage(&mut rt.stderr());
         return;
     }
-    let own = LabelWords::at(&rt, 1);
-    let other = LabelWords::at(&rt, 4);
-    if write_growth(&mut rt.stdout(), &mut rt.stderr(), &own, &other).is_err() {
+    let words = SixWords::given(&rt);
+    if write_growth(&mut rt.stdout(), &mut rt.stderr(), &words).is_err() {
         tell(
             &mut rt.stderr(),
             "grow: standard output cannot be written\n",

@@ -5,26 +5,25 @@ ghost use Rattle.plan.specs.rules.Text.{line_feed};
 ghost use Rattle.grow.specs.Asked.{growth_by_words};
 ghost use Rattle.grow.specs.Text.{asked_text};
 
-use crate::asked::{LabelWords, growth_asked};
+use crate::asked::SixWords;
 use crate::explain::tell_refused;
 use crate::text::Told;
 use std::io;
 use std::io::Write;
 
-// Writes how far the labels of these words grow, and a line feed; or the refusal, and on standard error which word is refused and why.
+// Writes how far the labels grow that the words give, and a line feed; or the refusal, and on standard error which word is refused and why.
 pub(crate) fn write_growth<W: Write, E: Write>(
     out: &mut W,
     err: &mut E,
-    own: &LabelWords,
-    other: &LabelWords,
+    words: &SixWords,
 ) -> io::Result<()>
     ensures { OnOk result (Appends (W.contents out.old) (W.contents out.new)
-        (asked_text (growth_by_words own.now other.now) ++ (line_feed ∷ []))) }
+        (asked_text (growth_by_words words.now.own words.now.other) ++ (line_feed ∷ []))) }
 {
-    let asked = growth_asked(own, other);
+    let asked = words.growth();
     writeln!(out, "{}", Told(asked))?;
     if asked.is_err() {
-        tell_refused(err, own, other);
+        tell_refused(err, words);
     }
     Ok(())
 }

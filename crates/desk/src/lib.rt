@@ -9,7 +9,7 @@ use std::io::Write;
 use std::rt::Env;
 
 // A word, from the front. One that does not fit is longer than every word that a program knows, and counts as none; but its first bytes
-// stand there.
+// stand there. An array and a length, since a String's memory can run out.
 #[derive(Clone, Copy)]
 pub struct Word {
     bytes: [u8; 8],

@@ -17,20 +17,26 @@ pub(crate) struct LabelWords {
     pub corner: Word,
 }
 
-impl LabelWords {
-    // The words of a label, of which the first has this number.
-    pub(crate) fn at(rt: &impl Env, first: usize) -> LabelWords
-        requires { first ≤ 4 }
-    {
-        LabelWords {
-            x: Word::at(rt, first),
-            y: Word::at(rt, first + 1),
-            corner: Word::at(rt, first + 2),
-        }
+// The words of two labels.
+#[derive(Clone, Copy)]
+pub(crate) struct SixWords {
+    pub own: LabelWords,
+    pub other: LabelWords,
+}
+
+// The words of a label, of which the first has this number.
+fn label_at(rt: &impl Env, first: usize) -> LabelWords
+    requires { first ≤ 4 }
+{
+    LabelWords {
+        x: Word::at(rt, first),
+        y: Word::at(rt, first + 1),
+        corner: Word::at(rt, first + 2),
     }
 }
 
-// The number that a word writes, up to 10,000. Any other word gives 10,001, which is neither a coordinate nor a corner.
+// The number that a word writes, up to 10,000. Any other word gives 10,001, which is neither a coordinate nor a corner: asking how far
+// labels grow takes any numbers.
 pub(crate) fn number_given(word: &Word) -> u32
     ensures { result ≡ number_given word.now }
 {
@@ -46,11 +52,21 @@ fn place_given(label: &LabelWords) -> Place
     }
 }
 
-// How far the labels grow that the words give.
-pub(crate) fn growth_asked(own: &LabelWords, other: &LabelWords) -> Result<Growth, Refusal>
-    ensures { result ≡ growth_by_words own.now other.now }
-{
-    let c = number_given(&own.corner);
-    let e = number_given(&other.corner);
-    how_far(place_given(own), c, place_given(other), e)
+impl SixWords {
+    // The words behind the program's name.
+    pub(crate) fn given(rt: &impl Env) -> SixWords {
+        SixWords {
+            own: label_at(rt, 1),
+            other: label_at(rt, 4),
+        }
+    }
+
+    // How far the labels grow that the words give.
+    pub(crate) fn growth(&self) -> Result<Growth, Refusal>
+        ensures { result ≡ growth_by_words self.now.own self.now.other }
+    {
+        let c = number_given(&self.own.corner);
+        let e = number_given(&self.other.corner);
+        how_far(place_given(&self.own), c, place_given(&self.other), e)
+    }
 }

@@ -1,7 +1,7 @@
 // Why the words are refused, on standard error: the first word that is outside the rules, and the rule.
 ghost use Rattle.std.specs.Prelude.{◌≤◌};
 
-use crate::asked::{LabelWords, number_given};
+use crate::asked::{LabelWords, SixWords, number_given};
 use desk::tell;
 use placing::units::Limits;
 use std::io::Write;
@@ -28,8 +28,9 @@ fn first_refused(before: usize, label: &LabelWords) -> Option<(usize, &'static s
     None
 }
 
-pub(crate) fn tell_refused<W: Write>(err: &mut W, own: &LabelWords, other: &LabelWords) {
-    if let Some((word, rule)) = first_refused(0, own).or_else(|| first_refused(3, other)) {
+pub(crate) fn tell_refused<W: Write>(err: &mut W, words: &SixWords) {
+    let refused = first_refused(0, &words.own).or_else(|| first_refused(3, &words.other));
+    if let Some((word, rule)) = refused {
         tell(err, format_args!("grow: word {word}: {rule}\n"));
     }
 }

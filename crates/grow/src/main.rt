@@ -8,23 +8,21 @@ mod text;
 mod usage;
 mod write;
 
-use crate::asked::{LabelWords, growth_asked};
+use crate::asked::SixWords;
 use crate::usage::tell_usage;
 use crate::write::write_growth;
-use desk::word_count;
+use desk::{tell, word_count};
 
 fn main(rt: HostRuntime) {
     if word_count(&rt) != 6 {
         tell_usage(&mut rt.stderr());
         return;
     }
-    let own = LabelWords::at(&rt, 1);
-    let other = LabelWords::at(&rt, 4);
-    write_growth(
-        &mut rt.stdout(),
-        &mut rt.stderr(),
-        growth_asked(&own, &other),
-        &own,
-        &other,
-    );
+    let words = SixWords::given(&rt);
+    if write_growth(&mut rt.stdout(), &mut rt.stderr(), &words).is_err() {
+        tell(
+            &mut rt.stderr(),
+            "grow: standard output cannot be written\n",
+        );
+    }
 }

@@ -2,35 +2,28 @@
 ghost use Rattle.std.specs.Prelude.{[], ◌∷◌, ◌++◌, OnOk};
 ghost use Rattle.std.specs.Io.KnownBytes.{Appends};
 ghost use Rattle.plan.specs.rules.Text.{line_feed};
+ghost use Rattle.grow.specs.Asked.{growth_by_words};
 ghost use Rattle.grow.specs.Text.{asked_text};
 
-use crate::asked::LabelWords;
+use crate::asked::SixWords;
 use crate::explain::tell_refused;
 use crate::text::Told;
-use desk::tell;
-use placing::units::Growth;
-use plan::refusal::Refusal;
 use std::io;
 use std::io::Write;
 
-// Writes what is told of two labels, and a line feed.
-fn write_told<W: Write>(out: &mut W, asked: Result<Growth, Refusal>) -> io::Result<()>
-    ensures { OnOk result (Appends (W.contents out.old) (W.contents out.new) (asked_text asked ++ (line_feed ∷ []))) }
-{
-    writeln!(out, "{}", Told(asked))
-}
-
-// Writes how far the labels of these words grow; or the refusal, and on standard error which word is refused and why.
+// Writes how far the labels grow that the words give, and a line feed; or the refusal, and on standard error which word is refused and why.
 pub(crate) fn write_growth<W: Write, E: Write>(
     out: &mut W,
     err: &mut E,
-    asked: Result<Growth, Refusal>,
-    own: &LabelWords,
-    other: &LabelWords,
-) {
-    if write_told(out, asked).is_err() {
-        tell(err, "grow: standard output cannot be written\n");
-    } else if asked.is_err() {
-        tell_refused(err, own, other);
+    words: &SixWords,
+) -> io::Result<()>
+    ensures { OnOk result (Appends (W.contents out.old) (W.contents out.new)
+        (asked_text (growth_by_words words.now.own words.now.other) ++ (line_feed ∷ []))) }
+{
+    let asked = words.growth();
+    writeln!(out, "{}", Told(asked))?;
+    if asked.is_err() {
+        tell_refused(err, words);
     }
+    Ok(())
 }

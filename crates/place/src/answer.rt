@@ -1,25 +1,41 @@
 // Reading the list from standard input, and writing its answer. Nothing but `answer_input` is seen outside, so that no answer and no
 // reading can be made up elsewhere.
-ghost use Rattle.std.specs.Prelude.{◌≡◌, ◌<◌, IfOk, IfSome, length, take, drop};
-ghost use Rattle.std.specs.Io.KnownBytes.{Consumes, IsAtEnd, ReadConsumes};
+ghost use Rattle.std.specs.Prelude.{◌≡◌, ◌<◌, IfOk, IfSome, OnOk, IsErrOf, length, take, drop};
+ghost use Rattle.std.specs.Io.KnownBytes.{Appends, Consumes, IsAtEnd, Keeps, ReadConsumes};
 ghost use Rattle.plan.specs.rules.List.{longest_text};
 ghost use Rattle.plan.specs.rules.Calls.{filled_with};
 ghost use Rattle.place.specs.Input.{ReadBehind, ReadTo, after_read};
-ghost use Rattle.place.specs.Reply.{output_by, Replied, Writable};
+ghost use Rattle.place.specs.Reply.{output_by, Replied};
 
 use crate::asked::How;
 use crate::explain::tell_refused;
 use desk::tell;
 use plan::limits::TextLimits;
 use plan::output::{output, output_at};
-use std::io;
 use std::io::{Read, Write};
+use std::{fmt, io};
 
-// What came of a list: how many bytes were read, and how many its output has.
+// How many bytes were read of a list, and how many its output has.
 #[derive(Clone, Copy)]
 struct Answer {
     read: usize,
     written: usize,
+}
+
+// Why there is no answer.
+#[derive(Clone, Copy)]
+enum Fault {
+    Unread,
+    Unwritten,
+}
+
+impl fmt::Display for Fault {
+    fn fmt<W: fmt::Write>(&self, f: &mut fmt::Formatter<W>) -> fmt::Result {
+        match self {
+            Fault::Unread => write!(f, "standard input cannot be read"),
+            Fault::Unwritten => write!(f, "standard output cannot be written"),
+        }
+    }
 }
 
 // One read into what is left of the room: how many bytes it brought, and none where the input has ended.
@@ -76,33 +92,32 @@ fn reply<R: Read>(
     Ok(Answer { read, written })
 }
 
-// Writes the output for a list, and why the list is refused where it is; or that it cannot be written.
-fn write_answer<W: Write, E: Write>(out: &mut W, err: &mut E, list: &[u8], how: How, output: &[u8])
-    requires { Writable how.way how.at list.now output.now }
+// Answers the list that a reader has: writes its output, and why the list is refused where it is.
+fn answer_list<R: Read, W: Write, E: Write>(
+    input: &mut R,
+    out: &mut W,
+    err: &mut E,
+    how: How,
+) -> Result<(), Fault>
+    ensures written { OnOk result (IfSome (R.remaining input.old) (λ list.
+        Appends (W.contents out.old) (W.contents out.new) (output_by how.way how.at list))) }
+    ensures unread { IsErrOf result Fault.Unread → Keeps (W.contents out.old) (W.contents out.new) }
 {
-    if out.write_all(output).is_err() {
-        tell(err, "place: standard output cannot be written\n");
-        return;
-    }
+    let mut text = [0u8; TextLimits::TEXT];
+    let mut buffer = [0u8; TextLimits::SHEET];
+    let answer = reply(input, &mut text, how, &mut buffer).map_err(|_| Fault::Unread)?;
+    let output = &buffer[..answer.written];
+    out.write_all(output).map_err(|_| Fault::Unwritten)?;
     // A refusal starts with the word refused, a sheet with the word side.
     if output.starts_with(b"r") {
-        tell_refused(err, list, how);
+        tell_refused(err, &text[..answer.read], how);
     }
+    Ok(())
 }
 
 // Answers the list on standard input, by the way and at the side asked for.
 pub(crate) fn answer_input(rt: HostRuntime, how: How) {
-    let mut text = [0u8; TextLimits::TEXT];
-    let mut buffer = [0u8; TextLimits::SHEET];
-    let Ok(answer) = reply(&mut rt.stdin(), &mut text, how, &mut buffer) else {
-        tell(&mut rt.stderr(), "place: standard input cannot be read\n");
-        return;
-    };
-    write_answer(
-        &mut rt.stdout(),
-        &mut rt.stderr(),
-        &text[..answer.read],
-        how,
-        &buffer[..answer.written],
-    );
+    if let Err(fault) = answer_list(&mut rt.stdin(), &mut rt.stdout(), &mut rt.stderr(), how) {
+        tell(&mut rt.stderr(), format_args!("place: {fault}\n"));
+    }
 }

@@ -26,7 +26,7 @@ fn side_asked(way: Way, word: &Word) -> Option<How>
     ensures { result ≡ side_task way word.now }
 {
     let side = side_from(word.text());
-    if matches!(side, Side::Free) || word.first().is_ascii_digit() {
+    if side == Side::Free || word.first().is_ascii_digit() {
         return Some(How {
             way,
             at: Some(side),

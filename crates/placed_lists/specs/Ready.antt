@@ -1,16 +1,12 @@
 -- A list that may be placed: document 01, "Units and limits". Sites are looked at one after another, each against those before it.
 -- Assumes nothing.
-use Rattle.std.specs.Prelude.{◌≡◌, ◌≢◌, List, ℕ, ◌*◌, ◌≤◌, ◌<◌, length}
-use Rattle.std.proofs.Common.{mul-le-mul_right, arith}
-use Rattle.std.proofs.Math.Logic.{Ne-symm}
-use Rattle.std.proofs.Math.Decide.{dec_lt}
+use Rattle.std.specs.Prelude.{◌≡◌, ◌≢◌, List, ℕ, ◌≤◌, ◌<◌, length}
 use Rattle.placing.specs.declared.units.Place.{Place}
 use Rattle.placing.specs.declared.units.Side.{Side}
 use Rattle.placing.specs.declared.way.Way.{Way}
 use Rattle.placing.specs.rules.Units.{Distinct, InRange, OnPlan, site_at, free_side}
 use Rattle.placing.specs.rules.Answer.{judged_at}
 use Rattle.placing.specs.deciding.Answer.{answer_of}
-use Rattle.placing.specs.calls.Placing.{MayPlace}
 use Rattle.placing.specs.theorems.Answer.{answer-is}
 use Rattle.placing.specs.theorems.Given.{judged-range, answer-chosen}
 
@@ -25,35 +21,6 @@ pub record Ready (sites : List Place) : Type 0 where
   pub few : length sites ≤ 240
   pub distinct : Distinct sites
   pub in_range : InRange sites
-
-module _ {sites : List Place} (fresh : (i : ℕ) → i < length sites → Fresh sites i) where
-  -- Of two sites the later is apart from the earlier, so any two are apart.
-  either-apart : (i j : ℕ) → i < length sites → j < length sites → i ≢ j → Dec (i < j) → site_at sites i ≢ site_at sites j
-  either-apart i j below other differ (yes before) = (fresh j other).earlier i before
-  either-apart i j below other differ (no after) = Ne-symm ((fresh i below).earlier j (omega arith))
-
-  -- Sites that are all fresh may be placed.
-  pub fresh-ready : 1 ≤ length sites → length sites ≤ 240 → Ready sites
-  fresh-ready some_sites few =
-      record {
-        some_sites = some_sites;
-        few = few;
-        distinct = record { distinct = λ i j listed other differ. either-apart i j listed other differ (dec_lt i j) };
-        in_range = record { in_range = λ i listed. (fresh i listed).on_plan };
-      }
-
--- A list that may be placed, and a table for 240 sites.
-pub ready-places : {sites : List Place} {table : List ℕ} → Ready sites → 57600 ≤ length table → MayPlace sites table
-ready-places {sites} ready room =
-    record {
-      some_sites = ready.some_sites;
-      few = ready.few;
-      distinct = ready.distinct;
-      in_range = ready.in_range;
-      room =
-          let wide : length sites * length sites ≤ 240 * length sites = mul-le-mul_right (length sites) ready.few in
-          omega (arith, ready.few);
-    }
 
 -- The side found by a way is one at which corners may be chosen.
 pub found-judged : (way : Way) {sites : List Place} {side : Side} → Ready sites → side ≡ (answer_of way sites).side

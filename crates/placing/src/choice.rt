@@ -45,6 +45,7 @@ impl Labels<'_> {
         if state.decided[i] != 0 {
             return true;
         }
+        // A loop and no `any`, and so in `walk`: of the state that a closure writes a proof knows nothing afterwards.
         for e in 0..Limits::CORNERS {
             if self.try_open(state, marks, i, e) {
                 return true;

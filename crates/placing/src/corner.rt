@@ -15,14 +15,15 @@ pub(crate) struct Directions {
     pub y: Direction,
 }
 
-// Up the axis where `up` says so, else down it.
+// Up the axis where `up` says so, else down it. No From<bool>: a call says by this name what the test is of.
 fn direction_where(up: bool) -> Direction
     ensures { result ≡ up_where up }
 {
     if up { Direction::Up } else { Direction::Down }
 }
 
-// A corner's two directions, by its number. Corners 1 and 4 go to the right: modulo 4 they are 1 and 0. Corners 1 and 2 go upwards.
+// A corner's two directions, by its number; no From, since it asks for a corner. Corners 1 and 4 go to the right: modulo 4 they are 1 and 0.
+// Corners 1 and 2 go upwards.
 pub(crate) fn directions_of(corner: u8) -> Directions
     requires { Corner corner }
     ensures { result ≡ directions_of corner }

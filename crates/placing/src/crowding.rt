@@ -48,6 +48,7 @@ fn lower_site(
     requires { (length reaches.old ≡ 4 * most_sites) × (i < most_sites) × (away.0 ≡ distance_between s t) }
     ensures { SiteLowered i s t reaches.old reaches.new }
 {
+    // By index: of what `iter_mut` lends a proof knows nothing afterwards.
     for e in 0..Limits::CORNERS {
         let at = 4 * i + e;
         let reach = lowered(HalfUnits(reaches[at]), away, s, (e + 1) as u8, t);
@@ -85,6 +86,7 @@ fn lower_row(sites: &[Place], reaches: &mut [u32; Limits::ALL_CORNERS], top: Hal
     ensures { ReachesOver sites.now top.0 (RowsBelow (i + 1)) reaches.new }
 {
     let s = sites[i];
+    // By number, since the reaches of both sites are lowered.
     for j in i + 1..sites.len() {
         lower_pair(reaches, top, i, s, j, &sites[j]);
     }
@@ -118,6 +120,7 @@ fn upper_corners(n: usize, most: HalfUnits) -> Crowding
 {
     let furthest = most.doubled();
     let mut reaches = [0u32; Limits::ALL_CORNERS];
+    // By index: of a number that `array::from_fn` is given a proof does not know that the closure has it still.
     for at in 0..4 * n {
         reaches[at] = upper_reach(at, furthest.0);
     }

@@ -7,8 +7,8 @@ ghost use Rattle.placing.specs.code.Fresh.{OpenByte, FreshState};
 use crate::crowding::Crowding;
 use crate::units::{HalfUnits, Limits};
 
-// Which corners are open and which is decided, for every site. Four bytes a site say which corners are open, and one byte which is decided,
-// or 0: a trial reads and writes them one by one.
+// Which corners are open and which is decided, for every site. Four bytes a site say which corners are open, 1 for open, and one byte which
+// is decided, or 0: as numbers, since the laws of specs/search speak of them, and choosing hands the decisions back.
 #[derive(Clone, Copy)]
 pub(crate) struct State {
     pub opens: [u8; Limits::ALL_CORNERS],

@@ -100,20 +100,20 @@ impl State {
         marks[k] != 1 && self.decided[k] != 0
     }
 
-    // The first of `n` sites that waits. Below `from` none waits.
-    fn first_waiting(&self, marks: &[u8], from: usize, n: usize) -> Option<usize>
-        requires { MayLook self.now marks.now from n }
-        ensures { FirstWaiting self.now marks.now n result }
+    // The first of the sites with a mark that waits. Below `from` none waits.
+    fn first_waiting(&self, marks: &[u8], from: usize) -> Option<usize>
+        requires { MayLook self.now marks.now from }
+        ensures { FirstWaiting self.now marks.now (length marks.now) result }
     {
-        (from..n).find(|k| self.waits(marks, *k))
+        (from..marks.len()).find(|k| self.waits(marks, *k))
     }
 
-    // Marks the decided ones of `n` sites.
-    fn mark(&self, marks: &mut [u8], n: usize)
-        requires { (n ≤ most_sites) × (n ≤ length marks.old) }
-        ensures { Marked self.now n marks.new }
+    // Writes the marks: that of each decided site, and of no other. By index: of what `iter_mut` lends a proof knows nothing afterwards.
+    fn mark(&self, marks: &mut [u8])
+        requires { length marks.old ≤ most_sites }
+        ensures { Marked self.now (length marks.old) marks.new }
     {
-        for (j, decided) in self.decided[..n].iter().enumerate() {
+        for (j, decided) in self.decided[..marks.len()].iter().enumerate() {
             marks[j] = mark_of(*decided);
         }
     }
@@ -175,6 +175,7 @@ impl Labels<'_> {
         let labels = *self;
         let own = Label::at(labels.sites[k], state.decided[k]);
         let toward = directions_of(e);
+        // A loop and no `all`: of the state that a closure writes a proof knows nothing afterwards.
         for j in from..labels.sites.len() {
             if !labels.carry_to(state, k, own, j, e, toward) {
                 return false;
@@ -203,7 +204,7 @@ impl Labels<'_> {
 
     // Marks site `k` and carries its decision out. No where a site is left with no corner.
     fn mark_and_carry(&self, state: &mut State, marks: &mut [u8], k: usize, from: usize) -> bool
-        requires { MayCarryOut self.now state.old k from × (length self.now.sites.now ≤ length marks.old) }
+        requires { MayCarryOut self.now state.old k from × (length marks.old ≡ length self.now.sites.now) }
         ensures carried { CarriedOut (problem_of self.now) Every state.old k result state.new }
         ensures marked { marks.new ≡ set marks.old k 1 }
     {
@@ -217,7 +218,7 @@ impl Labels<'_> {
         requires { MayCarryOn self.now state.old marks.old from }
         ensures { CarriedOn (problem_of self.now) state.old result state.new }
     {
-        while let Some(k) = state.first_waiting(marks, from, self.sites.len()) {
+        while let Some(k) = state.first_waiting(marks, from) {
             if !self.mark_and_carry(state, marks, k, from) {
                 return false;
             }
@@ -231,7 +232,7 @@ impl Labels<'_> {
         ensures { Tried (problem_of self.now) state.old i c result state.new }
     {
         let before = *state;
-        state.mark(marks, self.sites.len());
+        state.mark(marks);
         state.take_corner(i, c);
         if self.carry_on(state, marks, i) {
             return true;

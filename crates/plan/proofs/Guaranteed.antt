@@ -30,8 +30,6 @@ use borrow.Author.Tests.{le-ltb}
 use Rattle.plan.specs.declared.plan.Plan.{Plan}
 use Rattle.plan.specs.theorems.Plan.{valid-holding, valid-for}
 use Rattle.plan.specs.theorems.Output.{ToPlace, not_placed, to_be_placed, text-to-place, prints-found, ToPlaceAt, not_placed_at, is_placed_at, text-to-place-at}
-use Rattle.plan.specs.code.Put.{Put}
-use Rattle.plan.specs.code.PutLaws.{put-taken}
 use Rattle.plan.specs.code.Filling.{WritePromised, promised, placed-some}
 
 -- A sheet with the answer has what its way guarantees: at sides greater than twice its number every rival has two labels that meet; above
@@ -138,13 +136,13 @@ output-answered-at way side text = by-sites (text-to-place-at way side text)
 
 module _ {plan : Plan} (valid : Valid plan) (is-placed : plan.placed ≡ true) {buffer : List ℕ} where
   -- The sheet was made in an array of its own, and its bytes are copied.
-  pub write-copied : {scratch made copy : List ℕ} {n : ℕ} → Put scratch 0 (sheet_for plan) n made → length (sheet_for plan) ≤ length scratch
-      → n ≤ length buffer → copy ≡ take n made → WritePromised plan buffer (Ok n) (copy ++ drop n buffer)
+  pub write-copied : {text copy : List ℕ} {n : ℕ} → text ≡ sheet_for plan → n ≡ length text
+      → n ≤ length buffer → copy ≡ text → WritePromised plan buffer (Ok n) (copy ++ drop n buffer)
   unfolding sites_in sheet_at chosen_at
-  write-copied {copy = copy} {n} put fits room is =
+  write-copied {copy = copy} {n} text_is size-is room is =
       let sheet = sheet_for plan in
-      let size : length sheet ≡ n = omega (arith, put.next_is) in
-      let same : copy ≡ sheet = is ∙ put-taken put fits in
+      let size : length sheet ≡ n = sym (size-is ∙ ap length text_is) in
+      let same : copy ≡ sheet = is ∙ text_is in
       let front : copy ++ drop n buffer ≡ filled_with sheet buffer = λ k. same k ++ drop (sym size k) buffer in
       let taken : take n (copy ++ drop n buffer) ≡ sheet = ap (take n) front ∙ take_at sheet (drop (length sheet) buffer) n size in
       promised plan buffer (accepted n) (rw (is-placed, le-ltb (length buffer) (length sheet) (omega arith)) (ap accepted size)) front

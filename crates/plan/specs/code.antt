@@ -11,8 +11,6 @@ pub mod PlanLaws
 pub mod Entering
 pub mod CallLaws
 pub mod Reading
-pub mod Put
-pub mod PutLaws
 pub mod SheetParts
 pub mod Composing
 pub mod Filling

@@ -7,7 +7,7 @@ pub mod list;
 pub mod name;
 pub mod number;
 pub mod output;
+pub mod page;
 pub mod plan;
-pub mod put;
 pub mod refusal;
 pub mod sheet;

@@ -1,44 +1,57 @@
 // From a list to the bytes that the placing program writes, by a way of placing, at the side found and at a given side.
-ghost use Rattle.std.specs.Prelude.{◌≡◌, ◌≤◌, length, take};
+ghost use Rattle.std.specs.Prelude.{◌≡◌, length, take};
 ghost use Rattle.plan.specs.rules.Refusal.{number_of};
 ghost use Rattle.plan.specs.rules.Sheet.{refusal_line};
 ghost use Rattle.plan.specs.rules.Calls.{filled_with};
 ghost use Rattle.plan.specs.deciding.Output.{output_of, output_at};
-ghost use Rattle.plan.specs.calls.Plan.{Valid};
 ghost use Rattle.plan.specs.calls.Answers.{list_placed, list_placed_at};
-ghost use Rattle.plan.specs.calls.Lengths.{longest_refusal_line};
-ghost use Rattle.plan.specs.code.Put.{Put};
 ghost use Rattle.plan.specs.code.Filling.{MayPut, planned_output};
 ghost use Rattle.plan.specs.Demands.{ListTold, ListToldAt, Answered, AnsweredAt};
 
 use crate::calls::is_side;
 use crate::limits::TextLimits;
+use crate::page::Page;
 use crate::plan::Plan;
-use crate::put::{put_byte, put_bytes, put_decimal};
 use crate::refusal::Refusal;
 use placing::units::Side;
 use placing::way::Way;
 
 // The line of a refusal: the word refused, a tab, the number and a line feed.
-fn put_refusal(out: &mut [u8], why: Refusal) -> usize
-    requires { longest_refusal_line ≤ length out.old }
-    ensures { Put out.old 0 (refusal_line (number_of why)) result out.new }
+fn refusal_page(why: Refusal) -> Page
+    ensures { result ≡ refusal_line (number_of why) }
 {
-    let number = u8::from(why);
-    let word = put_bytes(out, 0, b"refused\t");
-    let digits = put_decimal(out, word, number as u32);
-    put_byte(out, digits, b'\n')
+    let mut page = Page::new();
+    page.put(b"refused\t");
+    page.number(u8::from(why) as u32);
+    page.byte(b'\n');
+    page
 }
 
-// Puts the sheet of a plan that was placed, or the line of the refusal, at the front of the array, and gives its length.
-fn put_planned(outcome: Result<(), Refusal>, plan: &Plan, out: &mut [u8]) -> usize
-    requires { MayPut (record { outcome = outcome; plan = plan.now }) out.old }
-    ensures { Put out.old 0 (planned_output (record { outcome = outcome; plan = plan.now })) result out.new }
+// The sheet of a plan that was placed, or the line of the refusal.
+fn planned_page(outcome: Result<(), Refusal>, plan: &Plan) -> Page
+    requires { MayPut (record { outcome = outcome; plan = plan.now }) }
+    ensures { result ≡ planned_output (record { outcome = outcome; plan = plan.now }) }
 {
     match outcome {
-        Ok(()) => plan.compose(out),
-        Err(why) => put_refusal(out, why),
+        Ok(()) => plan.compose(),
+        Err(why) => refusal_page(why),
     }
+}
+
+// Puts that at the front of the array, and gives its length.
+fn put_planned(
+    outcome: Result<(), Refusal>,
+    plan: &Plan,
+    out: &mut [u8; TextLimits::SHEET],
+) -> usize
+    requires { MayPut (record { outcome = outcome; plan = plan.now }) }
+    ensures length { result ≡ length (planned_output (record { outcome = outcome; plan = plan.now })) }
+    ensures buffer { out.new ≡ filled_with (planned_output (record { outcome = outcome; plan = plan.now })) out.old }
+{
+    let page = planned_page(outcome, plan);
+    let text = page.text();
+    out[..text.len()].copy_from_slice(text);
+    text.len()
 }
 
 impl Plan {

@@ -16,13 +16,14 @@ use std::marker::Model;
 
 // How a plan is placed: the way, the side, and the corners in list order, 0 past the last.
 #[derive(Clone, Copy)]
-pub struct Placement {
+pub(crate) struct Placement {
     pub way: Way,
     pub side: Side,
     pub corners: [u8; Limits::SITES],
 }
 
-// Slots past the count hold nothing: a name of no bytes and the place 0, 0.
+// Slots past the count hold nothing: a name of no bytes and the place 0, 0. Names and places stand apart, since placing takes the places
+// as one slice, and in arrays, so that no call can run out of memory.
 #[derive(Clone, Copy)]
 pub struct Plan {
     pub(crate) count: usize,

@@ -51,22 +51,21 @@ pub record MayCarryOut (labels : Labels) (state : State) (k from : ℕ) : Type 0
   pub met_looked : (j : ℕ) → j < count_of labels → j ≢ k → MetLooked labels state.opens k (corner_at state.decided k) j
 
 -- Looking for the first site that waits. Below `from` none does.
-pub record MayLook (state : State) (marks : List ℕ) (from n : ℕ) : Type 0 where
-  pub few : n ≤ most_sites
-  pub room : n ≤ length marks
-  pub inside : from ≤ n
+pub record MayLook (state : State) (marks : List ℕ) (from : ℕ) : Type 0 where
+  pub few : length marks ≤ most_sites
+  pub inside : from ≤ length marks
   pub none_below : (j : ℕ) → j < from → Waits state marks j → ⊥
 
 -- Carrying out all decisions that are not marked. Those of the sites below `from` are.
 pub record MayCarryOn (labels : Labels) (state : State) (marks : List ℕ) (from : ℕ) : Type 0 where
-  pub room : count_of labels ≤ length marks
+  pub room : length marks ≡ count_of labels
   pub underway : Underway (problem_of labels) state.opens state.decided (Done marks)
   pub inside : from ≤ count_of labels
   pub marked_below : (j : ℕ) → j < from → Done marks j
 
 -- Trying corner c of site i, with all sites below it decided.
 pub record MayTry (labels : Labels) (state : State) (marks : List ℕ) (i c : ℕ) : Type 0 where
-  pub room : count_of labels ≤ length marks
+  pub room : length marks ≡ count_of labels
   pub listed : i < count_of labels
   pub corner : Corner c
   pub closed : Closed (problem_of labels) state.opens state.decided
@@ -76,7 +75,7 @@ pub record MayTry (labels : Labels) (state : State) (marks : List ℕ) (i c : �
 
 -- Walking on from site i.
 pub record MayWalk (labels : Labels) (state : State) (marks : List ℕ) (i : ℕ) : Type 0 where
-  pub room : count_of labels ≤ length marks
+  pub room : length marks ≡ count_of labels
   pub walked : Walked (problem_of labels) i state.opens state.decided
 
 -- Deciding site i, to which the walk has come.
@@ -87,7 +86,7 @@ pub record MayDecide (labels : Labels) (state : State) (marks : List ℕ) (i : �
 
 -- Choosing at a side up to the top.
 pub record MayChoose (labels : Labels) (crowding : Crowding) (marks : List ℕ) : Type 0 where
-  pub room : count_of labels ≤ length marks
+  pub room : length marks ≡ count_of labels
   pub reaches : ReachesAre labels.way labels.sites.now crowding
   pub least : 1 ≤ labels.side.0
   pub inside : labels.side.0 ≤ crowding.top.0
@@ -95,4 +94,4 @@ pub record MayChoose (labels : Labels) (crowding : Crowding) (marks : List ℕ) 
 -- Choosing at a side, with nothing prepared.
 pub record MayChooseAt (labels : Labels) (marks : List ℕ) : Type 0 where
   pub distinct : Distinct labels.sites.now
-  pub room : count_of labels ≤ length marks
+  pub room : length marks ≡ count_of labels

@@ -35,7 +35,7 @@ pub record BetweenIs (way : Way) (ps : List Place) (top : ℕ) (between : Betwee
 
 -- Narrowing what lies between two sides where one is left to try.
 pub record MayNarrow (labels : Labels) (crowding : Crowding) (between : Between) (marks : List ℕ) : Type 0 where
-  pub room : count_of labels ≤ length marks
+  pub room : length marks ≡ count_of labels
   pub crowding_is : CrowdingIs labels.way free_side labels.sites.now crowding
   pub between_is : BetweenIs labels.way labels.sites.now crowding.top.0 between
   pub left : between.low.0 < between.next.0

@@ -17,7 +17,7 @@ use Rattle.placing.specs.code.Marks.{mark-stays, none-waits-marked}
 
 -- Some decisions have been carried out since the state state₀: the marked ones, those of the sites below `from` among them.
 pub record CarryingOn (P : Problem) (from : ℕ) (state₀ state : State) (marks : List ℕ) : Type 0 where
-  pub room : P.n ≤ length marks
+  pub room : length marks ≡ P.n
   pub underway : Underway P state.opens state.decided (Done marks)
   pub later : (w d : List ℕ) (i c : ℕ) → i < P.n → c ≢ 0
       → Later P w d i c state₀.opens state₀.decided → Later P w d i c state.opens state.decided
@@ -96,7 +96,7 @@ module _ {P : Problem} {from : ℕ} {state₀ state : State} {marks : List ℕ}
                 (λ j inside different done. sym (get_or-set_other marks k j 1 0 different) ∙ done);
             later = λ w d i c inside some later.
                 carried_later so_far.underway listed is_decided carried inside some (so_far.later w d i c inside some later);
-            marked_below = λ j below. mark-stays marks j (lt_of_lt_of_le listed so_far.room) (so_far.marked_below j below);
+            marked_below = λ j below. mark-stays marks j (rw so_far.room listed) (so_far.marked_below j below);
           }
 
       -- .. and where a site is left with no corner, it has failed.

@@ -1,6 +1,6 @@
 -- What finding the side of a list of places asks.
 -- Assumes nothing.
-use Rattle.std.specs.Prelude.{List, ℕ, ◌*◌, ◌≤◌, length, take}
+use Rattle.std.specs.Prelude.{◌≡◌, List, ℕ, ◌*◌, ◌≤◌, length, take}
 use Rattle.std.proofs.Common.{mul-le-mul_right, arith, length-take}
 use Rattle.placing.specs.declared.crowding.Crowding.{Crowding}
 use Rattle.placing.specs.declared.labels.Labels.{Labels}
@@ -16,20 +16,20 @@ use Rattle.placing.specs.code.Labels.{count_of}
 pub record MayFind (sites : List Place) (marks : List ℕ) : Type 0 where
   pub held : Held sites judged_free
   pub distinct : Distinct sites
-  pub room : length sites ≤ length marks
+  pub room : length marks ≡ length sites
 
 -- Bisecting, with the reaches and the top known.
 pub record MayBisect (labels : Labels) (crowding : Crowding) (marks : List ℕ) : Type 0 where
   pub distinct : Distinct labels.sites.now
-  pub room : count_of labels ≤ length marks
+  pub room : length marks ≡ count_of labels
   pub crowding_is : CrowdingIs labels.way free_side labels.sites.now crowding
 
 -- A list that may be placed is held, at every judged side,
 pub held-place : {sites : List Place} {table : List ℕ} → MayPlace sites table → (side : HalfUnits) → side.0 ≤ free_side → Held sites side
 held-place may side judged = record { few = may.few; in_range = may.in_range; judged = judged }
 
--- and the front of its lent table has room for the marks.
-pub marks-room : {sites : List Place} {table : List ℕ} → MayPlace sites table → length sites ≤ length (take (length sites) table)
+-- and the front of its lent table has a mark for each site.
+pub marks-room : {sites : List Place} {table : List ℕ} → MayPlace sites table → length (take (length sites) table) ≡ length sites
 marks-room {sites} {table} may =
     let wide : 1 * length sites ≤ length sites * length sites = mul-le-mul_right (length sites) may.some_sites in
     omega (arith, may.room, length-take {A = ℕ})

@@ -1,4 +1,4 @@
--- Document 01, "Calls on a plan": what each call hands back for every plan, refused or not, as the code's records and enums.
+-- Document 01, "Calls on a plan": what each call hands back for every plan, refused or not, as the records and the results of the code.
 -- Assumes nothing.
 use Rattle.std.specs.Prelude.{true, false, List, [], ℕ, eqb, length, Ok, Err}
 use Rattle.std.specs.Prelude as rattle

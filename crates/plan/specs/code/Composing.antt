@@ -4,7 +4,7 @@ use Rattle.std.specs.Prelude.{◌≡◌, refl, true, ℕ, zero, suc, ◌+◌, �
 use Rattle.std.proofs.Common.{sym, ◌∙◌, not-suc-le-zero, le_of_suc-le-suc, add-one, arith, length-take}
 use Rattle.std.proofs.Math.Path.{ap, ap₂}
 use Rattle.std.proofs.lemmas.Bool.{false≢true}
-use mathlib.Core.List.{List, [], ◌∷◌, ◌++◌, map, append_assoc}
+use mathlib.Core.List.{List, [], ◌∷◌, ◌++◌, map, append_assoc, append-nil}
 use Rattle.std.proofs.Math.ListN.{length-append, length-map, get_or-append}
 use Rattle.std.proofs.Math.Seq.{take-length}
 use Rattle.placing.specs.declared.units.Place.{Place}
@@ -31,8 +31,6 @@ use Rattle.plan.specs.theorems.Plan.{sites-placed}
 use Rattle.plan.specs.code.SheetParts.{side_line_ended, site_line_ended, SideSmall, past_names, site_held, line_held}
 use Rattle.plan.specs.code.Taken.{site_of}
 use Rattle.plan.specs.code.Entering.{name-held}
-use Rattle.plan.specs.code.Put.{Put}
-use Rattle.plan.specs.code.PutLaws.{put-none, put_then, put_same, put-length}
 
 -- ---- the lengths of the parts of a line
 
@@ -93,12 +91,13 @@ sheet-of-lines : (sites : List Site) (answer : Answer)
 unfolding sheet_with
 sheet-of-lines sites answer = simp append_assoc
 
--- The line of a site, part by part.
-pub line-parts : (site : Site) (corner : ℕ)
-    → site.name ++ (tab ∷ (decimal (along X site.place) ++ (tab ∷ (decimal (along Y site.place) ++ (tab ∷ (decimal corner ++ (line_feed ∷ [])))))))
-    ≡ site_line_ended site corner
+-- The line of a site behind a text, part by part.
+pub line-parts : (text : List ℕ) (site : Site) (corner : ℕ)
+    → text ++ site.name ++ (tab ∷ []) ++ decimal (along X site.place) ++ (tab ∷ []) ++ decimal (along Y site.place) ++ (tab ∷ []) ++ decimal corner
+    ++ (line_feed ∷ [])
+    ≡ text ++ site_line_ended site corner
 unfolding list_line
-line-parts site corner = simp append_assoc
+line-parts text site corner = simp append_assoc
 
 -- ---- a placed plan, site by site
 
@@ -218,42 +217,42 @@ printable (is_placed sites way answer listed nonempty chosen) placed = placed-pr
 
 -- ---- the lines written so far
 
--- After the lines of the first i sites: no more than 23 bytes for each.
-pub record Composed (plan : Plan) (out₀ : List ℕ) (at₀ : ℕ) (out : List ℕ) (at i : ℕ) : Type 0 where
+-- After the first line and the lines of the first i sites: no more than 23 bytes for each.
+pub record Composed (plan : Plan) (page : List ℕ) (i : ℕ) : Type 0 where
   pub counted : i ≤ plan.count
-  pub near : at ≤ at₀ + longest_site_line * i
-  pub lines : Put out₀ at₀ (lines_to plan i) at out
+  pub near : length page ≤ longest_side_line + longest_site_line * i
+  pub lines : page ≡ side_line_ended plan.side ++ lines_to plan i
 
--- Before the first line.
-pub composed-start : {plan : Plan} (out : List ℕ) (at : ℕ) → Printable plan → Composed plan out at out at 0
-composed-start out at print =
-    record { counted = omega arith; near = omega arith; lines = put_same (put-none out at) (sym print.no_line) }
+-- Behind the first line.
+pub composed-start : {plan : Plan} {page : List ℕ} → Printable plan → page ≡ [] ++ side_line_ended plan.side → Composed plan page 0
+composed-start {plan} print is =
+    record {
+      counted = omega arith;
+      near = omega (arith, ap length is, side-line-short plan.side print.side_small);
+      lines = is ∙ sym (append-nil (side_line_ended plan.side)) ∙ ap (λ (l : List ℕ). side_line_ended plan.side ++ l) (sym print.no_line);
+    }
 
-module _ {plan : Plan} {out₀ out : List ℕ} {at₀ at i : ℕ} (print : Printable plan) (so_far : Composed plan out₀ at₀ out at i) where
+module _ {plan : Plan} {page : List ℕ} {i : ℕ} (print : Printable plan) (so_far : Composed plan page i) where
   -- There is room for the next line,
-  pub composed-room : at₀ ≤ longest_side_line → longest_sheet ≤ length out₀ → i < plan.count → at + longest_site_line ≤ length out
-  composed-room after-side room more = omega (arith, so_far.near, print.few, put-length so_far.lines)
+  pub composed-room : i < plan.count → length page + longest_site_line ≤ longest_sheet
+  composed-room more = omega (arith, so_far.near, print.few)
 
   -- with it there is one line more,
-  pub composed-more : {later : List ℕ} {next : ℕ} → i < plan.count
-      → Put out at (line_held plan i) next later → Composed plan out₀ at₀ later next (i + 1)
-  composed-more more put =
+  pub composed-more : {later : List ℕ} → i < plan.count → later ≡ page ++ line_held plan i → Composed plan later (i + 1)
+  composed-more more is =
+      let short = site-line-short (get_or plan.names i past_names) (get_or plan.places i nowhere) (get_or plan.corners i 0)
+      (print.name_fits i more) (print.on_plan i more) (print.corner i more) in
       record {
         counted = omega arith;
-        near =
-            omega (
-              arith,
-              so_far.near,
-              put.next_is,
-              site-line-short (get_or plan.names i past_names) (get_or plan.places i nowhere) (get_or plan.corners i 0) (print.name_fits i more)
-                  (print.on_plan i more) (print.corner i more),
-            );
-        lines = rw (add-one i, print.one_line i more) (put_then so_far.lines put);
+        near = omega (arith, so_far.near, short, ap length is, length-append page (line_held plan i));
+        lines =
+            is ∙ ap (λ (l : List ℕ). l ++ line_held plan i) so_far.lines
+            ∙ append_assoc (side_line_ended plan.side) (lines_to plan i) (line_held plan i)
+            ∙ rw (add-one i, print.one_line i more) refl;
       }
 
   -- and after the last line the sheet is written.
-  pub composed-end : {first : List ℕ} → Put first 0 (side_line_ended plan.side) at₀ out₀ → plan.count ≤ i
-      → Put first 0 (sheet_for plan) at out
-  composed-end side-put done =
+  pub composed-end : plan.count ≤ i → page ≡ sheet_for plan
+  composed-end done =
       let last : i ≡ plan.count = omega (arith, so_far.counted) in
-      put_same (put_then side-put so_far.lines) (ap (λ (k : ℕ). side_line_ended plan.side ++ lines_to plan k) last ∙ print.whole)
+      so_far.lines ∙ ap (λ (k : ℕ). side_line_ended plan.side ++ lines_to plan k) last ∙ print.whole

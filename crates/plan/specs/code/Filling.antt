@@ -2,8 +2,8 @@
 -- buffer.
 -- Assumes nothing.
 use Rattle.std.proofs.Math.Path.{◌≡◌, refl, sym, ap, subst}
-use Rattle.std.proofs.Common.{◌∙◌, mul-le-mul, arith}
-use Rattle.std.specs.Prelude.{Bool, true, false, not, ℕ, ◌*◌, ◌≤◌, ◌<◌, eqb, Ok, Err}
+use Rattle.std.proofs.Common.{◌∙◌, mul-le-mul, arith, take_at}
+use Rattle.std.specs.Prelude.{Bool, true, false, not, ℕ, ◌*◌, ◌≤◌, ◌<◌, eqb, Ok, Err, drop}
 use Rattle.std.proofs.lemmas.Bool.{false≢true}
 use mathlib.Core.List.{List, [], ◌∷◌}
 use Rattle.std.proofs.Math.ListN.{length, take}
@@ -52,8 +52,6 @@ use Rattle.plan.specs.theorems.Plan.{sites-unplaced, sites-placed, holding-unpla
 use Rattle.plan.specs.theorems.Calls.{write-told}
 use Rattle.plan.specs.theorems.Choosing.{chosen-listed, found-done, placed_by}
 use Rattle.plan.specs.theorems.Output.{ToPlace, not_placed, to_be_placed, text-to-place}
-use Rattle.plan.specs.code.Put.{Put}
-use Rattle.plan.specs.code.PutLaws.{put_same, put_front, put-taken}
 use Rattle.plan.specs.code.CallLaws.{refusal-of}
 
 -- ---- writing
@@ -112,31 +110,26 @@ abbrev pub planned_output : Planned → List ℕ
 planned_output planned = written_by planned.outcome planned.plan
 
 -- It can be: where the outcome is no refusal the plan is placed.
-pub record MayPut (planned : Planned) (out : List ℕ) : Type 0 where
+pub record MayPut (planned : Planned) : Type 0 where
   pub done_placed : planned.outcome ≡ Ok tt → planned.plan.placed ≡ true
-  pub room : longest_sheet ≤ length out
 
 -- What is handed back placed, or refused, can be.
-pub handed-put : {A : Type 0} {r : Planned} {out : List ℕ} (plan-of : A → Plan) (other : Plan) (result : Result A) → r ≡ handed plan-of other result
-    → ((value : A) → (plan-of value).placed ≡ true) → longest_sheet ≤ length out → MayPut r out
-handed-put {A} {r} plan-of other result is placed room =
-    record {
-      done_placed = subst (λ (p : Planned). p.outcome ≡ Ok tt → p.plan.placed ≡ true) (sym is) (by_result result);
-      room = room;
-    }
+pub handed-put : {A : Type 0} {r : Planned} (plan-of : A → Plan) (other : Plan) (result : Result A) → r ≡ handed plan-of other result
+    → ((value : A) → (plan-of value).placed ≡ true) → MayPut r
+handed-put {A} {r} plan-of other result is placed =
+    record { done_placed = subst (λ (p : Planned). p.outcome ≡ Ok tt → p.plan.placed ≡ true) (sym is) (by_result result) }
   where
     by_result : (result : Result A) → (handed plan-of other result).outcome ≡ Ok tt → (handed plan-of other result).plan.placed ≡ true
     by_result (accepted value) done = placed value
     by_result (refused why) done = let z : ◌≡◌ {A = ℕ} 0 1 = cc in absurd (omega arith)
 
--- What is promised of an output: its length, and the buffer afterwards, where it was put at the front of a buffer for the longest sheet.
-pub output-put : {buffer out after : List ℕ} {n : ℕ} (output : List ℕ) → length buffer ≡ longest_sheet → length output ≤ longest_sheet
-    → out ≡ output → Put buffer 0 out n after
+-- What is promised of an output: its length, and the buffer afterwards, where it was put at the front of a buffer.
+pub output-put : (buffer : List ℕ) {out after : List ℕ} {n : ℕ} (output : List ℕ) → out ≡ output → n ≡ length out → after ≡ filled_with out buffer
     → (n ≡ length output) × ((after ≡ filled_with output buffer) × (take n after ≡ output))
-output-put {buffer} output size short is put =
-    let room : length output ≤ length buffer = omega arith in
-    let same = put_same put is in
-    (omega (arith, same.next_is), (put_front same room, put-taken same room))
+output-put buffer {n = n} output is size filled =
+    let size-is : n ≡ length output = size ∙ ap length is in
+    let filled-is = filled ∙ ap (λ (text : List ℕ). filled_with text buffer) is in
+    (size-is, (filled-is, ap (take n) filled-is ∙ take_at output (drop (length output) buffer) n (sym size-is)))
 
 -- ---- a list, read and placed at the side found
 

@@ -24,7 +24,7 @@ use Rattle.plan.specs.theorems.Sites.{listed-site}
 use Rattle.plan.specs.theorems.Reading.{line-short, entered-line, reads-list, reads-are, first-refused}
 use Rattle.plan.specs.theorems.FirstLine.{refused_why, before-listed, first-refused-one}
 
--- Ok without a line feed: their first m are refused for want of it.
+-- Bytes without a line feed: their first m are refused for want of it.
 without-take : (m : ℕ) (bytes : List ℕ) → Without line_feed bytes → Without line_feed (take m bytes)
 without-take zero bytes without = tt
 without-take (suc m) [] without = tt

@@ -1,18 +1,11 @@
 -- `unready` meets its contract, test by test. Assumes nothing.
 use Prim.Native.Nat.{◌*◌}
-use native.Mathlib.Nat.{mul-le-mul}
-use native.Mathlib.Omega.{arith}
 use borrow.Author.Tests.{eq-eqb, ne_eqb, lt-ltb, le-ltb}
 use Rattle.plan.proofs.calls.ready.Goals as goal
 
 pub returns-then-n-eq0 : goal.returns-then-n-eq0
 returns-then-n-eq0 c =
     rw (eq-eqb c.args.n 0 c.if-n-eq0.true)
-
-pub overflow_mul-n : goal.overflow_mul-n
-overflow_mul-n c =
-    let few = c.requires in
-    omega (arith, mul-le-mul few few)
 
 pub returns-then-bytes-n : goal.returns-then-bytes-n
 returns-then-bytes-n c =

@@ -10,10 +10,6 @@ use Rattle.plan.proofs.name.name_from.Goals as goal
 short : (text : List ℕ) {is : Bool} → is ≡ is_name text → is ≡ true → length text ≤ most_name_bytes
 short text says named = name-short text (sym says ∙ named)
 
-pub returns-then-not-is_name : goal.returns-then-not-is_name
-returns-then-not-is_name c =
-    no-name-read c.args.text.now (sym c.is_name.ensures ∙ c.if-not-is_name.true)
-
 pub slice_bounds-bytes-end : goal.slice_bounds-bytes-end
 slice_bounds-bytes-end c =
     short _ c.is_name.ensures c.if-not-is_name.false
@@ -25,10 +21,3 @@ slice_bounds-copy_from_slice-end c =
 pub copy_from_slice-requires : goal.copy_from_slice-requires
 copy_from_slice-requires c =
     length-take-le _ _ (short _ c.is_name.ensures c.if-not-is_name.false)
-
-pub returns : goal.returns
-returns c =
-    let text = c.args.text.now in
-    name-read text (sym c.is_name.ensures ∙ c.if-not-is_name.false)
-    (ap₂ (λ (front rest : List ℕ). record { bytes = front ++ rest; len = length text }) c.copy_from_slice.ensures.after
-    (drop-zeros (length text) most_name_bytes))

@@ -6,10 +6,8 @@ use Rattle.plan.specs.rules.Calls.{to_place}
 use Rattle.plan.specs.calls.Plan.{placed_with, placed_plan}
 use Rattle.plan.specs.calls.Answers.{started}
 use Rattle.plan.specs.Demands.{Answered}
-use Rattle.plan.specs.theorems.Output.{output-longest}
 use Rattle.plan.proofs.Guaranteed.{output-answered}
 use Rattle.plan.specs.code.Filling.{handed-put, output-put, placed-output}
-use borrow.Author.Rules.{rules}
 use Rattle.plan.proofs.output.output.Goals as goal
 
 pub put_planned-requires : goal.put_planned-requires
@@ -17,14 +15,14 @@ unfolding placed_with
 put_planned-requires c =
     let args = c.args in
     handed-put (placed_plan args.way) started (to_place (read_list args.text.now))
-    c.place_list-placed.ensures.answer (λ sites. refl) (search rules)
+    c.place_list-placed.ensures.answer (λ sites. refl)
 
 pub returns : goal.returns
 returns c =
     let args = c.args in
     let text = args.text.now in
-    let put = output-put (output_of args.way text) (search rules) (output-longest args.way text)
-    (placed-output args.way text c.place_list-placed.ensures.answer) c.put_planned.ensures in
+    let put = output-put args.buffer.now (output_of args.way text)
+    (placed-output args.way text c.place_list-placed.ensures.answer) c.put_planned.ensures.length c.put_planned.ensures.buffer in
     record {
       length = put.0;
       buffer = put.1.0;

@@ -6,10 +6,8 @@ use Rattle.plan.specs.rules.Calls.{to_place_at}
 use Rattle.plan.specs.calls.Plan.{placed_with}
 use Rattle.plan.specs.calls.Answers.{started, placed_at}
 use Rattle.plan.specs.Demands.{AnsweredAt}
-use Rattle.plan.specs.theorems.Output.{output-longest-at}
 use Rattle.plan.proofs.Guaranteed.{output-answered-at}
 use Rattle.plan.specs.code.Filling.{handed-put, output-put, placed-output-at}
-use borrow.Author.Rules.{rules}
 use Rattle.plan.proofs.output.output_at.Goals as goal
 
 pub put_planned-requires : goal.put_planned-requires
@@ -17,14 +15,14 @@ unfolding placed_with
 put_planned-requires c =
     let args = c.args in
     handed-put (placed_at args.way args.side) started (to_place_at args.side (exists_at args.way args.side) (read_list args.text.now))
-    c.place_list_at-placed.ensures.answer (λ sites. refl) (search rules)
+    c.place_list_at-placed.ensures.answer (λ sites. refl)
 
 pub returns : goal.returns
 returns c =
     let args = c.args in
     let text = args.text.now in
-    let put = output-put (output_at args.way args.side text) (search rules) (output-longest-at args.way args.side text)
-    (placed-output-at args.way args.side text c.place_list_at-placed.ensures.answer) c.put_planned.ensures in
+    let put = output-put args.buffer.now (output_at args.way args.side text)
+    (placed-output-at args.way args.side text c.place_list_at-placed.ensures.answer) c.put_planned.ensures.length c.put_planned.ensures.buffer in
     record {
       length = put.0;
       buffer = put.1.0;

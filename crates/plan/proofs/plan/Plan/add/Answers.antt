@@ -1,8 +1,6 @@
 -- `Plan::add` meets its contract: its record is that of one site more. Assumes nothing.
-use mathlib.Core.Path.{ap}
 use native.Mathlib.Omega.{arith}
-use Rattle.plan.specs.declared.plan.Plan.{Plan}
-use Rattle.plan.specs.code.PlanLaws.{one_more, more-room, more-valid}
+use Rattle.plan.specs.code.PlanLaws.{more-room, more-valid}
 use Rattle.plan.proofs.plan.Plan.add.Goals as goal
 
 pub offset_bounds-self-inside-self-inside : goal.offset_bounds-self-inside-self-inside
@@ -28,7 +26,3 @@ overflow_add-self c =
 pub invariant_of-self : goal.invariant_of-self
 invariant_of-self c =
     more-valid c.self.view_is c.self.invariant c.args.name c.args.place c.requires.0 c.requires.1
-
-pub returns : goal.returns
-returns c =
-    ap (λ (p : Plan). one_more p c.args.name c.args.place) c.self.view_is

@@ -4,4 +4,4 @@ use Rattle.plan.specs.code.Composing.{Composed}
 use Rattle.plan.proofs.plan.Plan.compose.Given as goal
 
 abbrev pub invariant-loop-i : goal.invariant-loop-i
-invariant-loop-i l = Composed (plan_of l.self-inside) l.initial.out l.initial.at l.out l.at l.i
+invariant-loop-i l = Composed (plan_of l.self-inside) l.page l.i

@@ -3,24 +3,12 @@
 use mathlib.Core.Path.{sym, ap, ◌∙◌}
 use lib.ListN.{get_or}
 use native.Mathlib.Omega.{arith}
-use Rattle.std.specs.Prelude.{is_some, Ok, Err}
+use Rattle.std.specs.Prelude.{is_some, Ok}
 use Rattle.plan.specs.declared.refusal.Refusal.TheVariants.{NotPlaced}
 use Rattle.plan.specs.calls.Fields.{placement_held, plan_of}
 use Rattle.plan.specs.theorems.Plan.{valid-holding}
-use Rattle.plan.specs.code.CallLaws.{handed-on, placement-there, placement-none, corner-refused, corner-outside, corner-given, corner-promised}
+use Rattle.plan.specs.code.CallLaws.{placement-there, corner-outside, corner-given, corner-promised}
 use Rattle.plan.proofs.plan.Plan.corner.Goals as goal
-
-pub returns-in_err-placement : goal.returns-in_err-placement
-returns-in_err-placement c =
-    let plan = plan_of c.self.inside in
-    let none = placement-none c.self.inside.placement NotPlaced (sym c.ok_or.ensures.value ∙ c.in_err-placement.was) in
-    let is = handed-on c.from_residual.ensures.1 ∙ ap Err (sym none.1) ∙ corner-refused plan c.args.i none.0 in
-    let told = corner-promised c.args.i c.self.view_is is in
-    record {
-      answer = told.0;
-      told = told.1.0;
-      value = told.1.1;
-    }
 
 pub returns-then-i-self : goal.returns-then-i-self
 returns-then-i-self c =

@@ -5,12 +5,6 @@ use Rattle.plan.specs.theorems.Calls.{enter-told}
 use Rattle.plan.specs.code.Entering.{PlaceIs, place_read_lem, call-answers, name_fits, entered-as-read}
 use Rattle.plan.proofs.plan.Plan.enter.Goals as goal
 
-pub enter_read-requires : goal.enter_read-requires
-enter_read-requires c =
-    let place_is : PlaceIs (some c.args.x) (some c.args.y) c.place_at-place.result =
-    place_read_lem _ _ c.coordinate_at.ensures c.coordinate_at-2.ensures c.place_at-place.ensures in
-    record { name_fits = name_fits c.args.name.now c.name_from.ensures; place_fits = place_is.fits }
-
 pub returns : goal.returns
 returns c =
     let place_is : PlaceIs (some c.args.x) (some c.args.y) c.place_at-place.result =

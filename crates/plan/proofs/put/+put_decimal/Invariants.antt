@@ -1,5 +1,0 @@
--- The measure of `put_decimal` is the number: its tenth part is smaller.
-use Rattle.plan.proofs.put.+put_decimal.Given as goal
-
-abbrev pub decreases-put_decimal : goal.decreases-put_decimal
-decreases-put_decimal l = l.n

@@ -1,0 +1,80 @@
+// Text put together from its front, in an array with room for every sheet.
+ghost use Rattle.std.specs.Prelude.{◌≡◌, ◌+◌, ◌≤◌, ◌<◌, [], ◌∷◌, ◌++◌, length};
+ghost use Rattle.plan.specs.rules.Text.{decimal};
+ghost use Rattle.plan.specs.calls.Lengths.{longest_sheet};
+
+use crate::limits::TextLimits;
+use std::marker::Model;
+
+#[derive(Drop)]
+pub(crate) struct Page {
+    bytes: [u8; TextLimits::SHEET],
+    len: usize,
+}
+
+// A page is the text that was put so far.
+impl Model for Page {
+    ghost use Rattle.std.specs.Prelude.{List, ℕ, ◌≤◌, take};
+    ghost use Rattle.plan.specs.calls.Lengths.{longest_sheet};
+
+    ghost Value = { List ℕ };
+
+    ghost view = { λ page. take page.len page.bytes };
+
+    ghost invariant = { λ page. page.len ≤ longest_sheet };
+}
+
+impl Page {
+    // No text.
+    pub(crate) fn new() -> Page
+        ensures { result ≡ [] }
+    {
+        Page {
+            bytes: [0u8; TextLimits::SHEET],
+            len: 0,
+        }
+    }
+
+    // One byte more.
+    pub(crate) fn byte(&mut self, b: u8)
+        requires { length self.old < longest_sheet }
+        ensures text { self.new ≡ self.old ++ (b ∷ []) }
+        ensures len { length self.new ≡ length self.old + 1 }
+    {
+        self.bytes[self.len] = b;
+        self.len += 1;
+    }
+
+    // The bytes of a text more.
+    pub(crate) fn put(&mut self, text: &[u8])
+        requires { length self.old + length text.now ≤ longest_sheet }
+        ensures text { self.new ≡ self.old ++ text.now }
+        ensures len { length self.new ≡ length self.old + length text.now }
+    {
+        let end = self.len + text.len();
+        self.bytes[self.len..end].copy_from_slice(text);
+        self.len = end;
+    }
+
+    // A number more, in decimal: the digits of its tenth part, then its last digit.
+    pub(crate) fn number(&mut self, n: u32)
+        requires { length self.old + length (decimal n) ≤ longest_sheet }
+        ensures text { self.new ≡ self.old ++ decimal n }
+        ensures len { length self.new ≡ length self.old + length (decimal n) }
+    {
+        if n < 10 {
+            self.byte(b'0' + n as u8);
+            return;
+        }
+        self.number(n / 10);
+        self.byte(b'0' + (n % 10) as u8);
+    }
+
+    // The text.
+    pub(crate) fn text(&self) -> &[u8]
+        ensures text { result.now ≡ self.now }
+        ensures fits { length result.now ≤ longest_sheet }
+    {
+        &self.bytes[..self.len]
+    }
+}

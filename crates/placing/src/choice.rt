@@ -31,10 +31,7 @@ impl Labels<'_> {
         ensures { Tried (problem_of self.now) state.old i (e + 1) result state.new }
     {
         let at = 4 * i + e;
-        if state.opens[at] == 1 {
-            return self.try_corner(state, marks, i, (e + 1) as u8);
-        }
-        false
+        state.opens[at] == 1 && self.try_corner(state, marks, i, (e + 1) as u8)
     }
 
     // Decides site `i`, where it is not decided yet, by its lowest open corner whose trial does not fail. No where all fail.

@@ -157,10 +157,8 @@ impl Labels<'_> {
         ensures { CarriedThere (problem_of self.now) (Only e) state.old k j result state.new }
     {
         let at = index_of(j, e);
-        if state.opens[at] == 1 {
-            if self.clash(k, own, j, toward) {
-                return state.close_corner(j, e);
-            }
+        if state.opens[at] == 1 && self.clash(k, own, j, toward) {
+            return state.close_corner(j, e);
         }
         true
     }

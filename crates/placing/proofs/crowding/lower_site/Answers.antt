@@ -1,9 +1,8 @@
 -- `crowding::lower_site` meets its contract. The loop's invariant: the first `e` reaches of the site are lowered.
 -- Assumes nothing.
 use native.Mathlib.Omega.{arith}
-use mathlib.Core.Path.{◌≡◌}
 use Prim.Native.Nat.{◌+◌, ◌*◌}
-use Rattle.placing.specs.code.Filled.{filled_none, filled_more}
+use Rattle.placing.specs.code.Filled.{filled_more}
 use Rattle.placing.proofs.crowding.lower_site.Goals as goal
 
 pub loop-e-preserved : goal.loop-e-preserved

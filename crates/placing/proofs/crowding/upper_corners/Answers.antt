@@ -1,7 +1,6 @@
 -- `crowding::upper_corners` meets its contract. The loop's invariant: the reaches before `at` are written.
 -- Assumes nothing.
 use native.Mathlib.Omega.{arith}
-use Rattle.placing.specs.code.Filled.{filled_none, filled_next}
 use Rattle.placing.specs.code.Crowding.{crowding-above}
 use Rattle.placing.proofs.crowding.upper_corners.Goals as goal
 

@@ -3,14 +3,8 @@
 use mathlib.Core.Path.{◌≡◌}
 use native.Mathlib.Omega.{arith}
 use Prim.Native.Nat.{◌*◌}
-use Rattle.std.proofs.lemmas.List.{get_or-take}
-use Rattle.placing.specs.code.Filled.{filled_none, filled_next}
 use Rattle.placing.specs.code.Fresh.{fresh-all}
 use Rattle.placing.proofs.fresh.fresh_state.Goals as goal
-
-pub loop-at-preserved : goal.loop-at-preserved
-loop-at-preserved c =
-    filled_next c.loop-at.invariant (omega arith) (rw (get_or-take (4 * c.args.n) c.args.crowding.now.reaches c.loop-at.at 0 (omega arith)) at c.is_open.ensures)
 
 pub returns : goal.returns
 returns c =

@@ -7,12 +7,7 @@ use native.Mathlib.Nat.{mul-le-mul_right}
 use borrow.Author.Rules.{rules}
 use Rattle.std.proofs.lemmas.List.{length-take}
 use Rattle.std.proofs.lemmas.Slice.{drop-append-drop}
-use Rattle.placing.specs.code.Placed.{marks-room}
 use Rattle.placing.proofs.place.choose_corners.Goals as goal
-
-pub first_choice-corners-requires : goal.first_choice-corners-requires
-first_choice-corners-requires c =
-    record { distinct = c.requires.0.distinct; room = marks-room c.requires.0 }
 
 pub returns-clause-table : goal.returns-clause-table
 returns-clause-table c =

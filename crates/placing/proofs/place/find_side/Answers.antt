@@ -8,12 +8,7 @@ use borrow.Author.Rules.{rules}
 use Prim.Native.Nat.{ℕ}
 use Rattle.std.proofs.lemmas.List.{length-take}
 use Rattle.std.proofs.lemmas.Slice.{drop-append-drop}
-use Rattle.placing.specs.code.Placed.{may-find}
 use Rattle.placing.proofs.place.find_side.Goals as goal
-
-pub greatest_side-side-requires : goal.greatest_side-side-requires
-greatest_side-side-requires c =
-    may-find c.requires
 
 pub returns-clause-table : goal.returns-clause-table
 returns-clause-table c =

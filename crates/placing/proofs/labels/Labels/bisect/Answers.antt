@@ -10,24 +10,6 @@ pub loop-between-init : goal.loop-between-init
 loop-between-init c =
     between-starts _ c.requires.distinct c.requires.crowding_is.none_above
 
-pub narrow-between-requires : goal.narrow-between-requires
-narrow-between-requires c =
-    let may = c.requires in
-    record {
-      room = omega (arith, may.room);
-      crowding_is = may.crowding_is;
-      between_is = c.loop-between.invariant;
-      left = omega (arith, (less-decides c.loop-between.between.low.0 c.loop-between.between.next.0 c.lt.ensures).yes_holds c.loop-between-test.true);
-    }
-
-pub loop-between-smaller : goal.loop-between-smaller
-loop-between-smaller c =
-    c.narrow-between.ensures.less
-
-pub loop-between-preserved : goal.loop-between-preserved
-loop-between-preserved c =
-    c.narrow-between.ensures.between_is
-
 pub returns : goal.returns
 returns c =
     let may = c.requires in

@@ -1,27 +1,9 @@
 -- `Labels::carry_on` meets its contract. The loop's invariant: the marked decisions have been carried out since the entry.
 -- The measure is how many sites have no mark.
 -- Assumes nothing.
-use native.Mathlib.Nat.{lt_of_lt_of_le}
 use Rattle.placing.specs.code.Marks.{mark-fewer}
-use Rattle.placing.specs.code.CarryOn.{carrying-starts, carrying-ends, carrying-on, carrying-stuck, none_below, may-carry-out}
+use Rattle.placing.specs.code.CarryOn.{carrying-on, carrying-stuck, may-carry-out}
 use Rattle.placing.proofs.labels.Labels.carry_on.Goals as goal
-
-pub loop-k-init : goal.loop-k-init
-loop-k-init c =
-    carrying-starts c.requires
-
-pub first_waiting-requires : goal.first_waiting-requires
-first_waiting-requires c =
-    let so_far = c.loop-k.invariant in
-    record {
-      few = rw so_far.room c.args.self.now.held.few;
-      inside = rw so_far.room c.requires.inside;
-      none_below = none_below so_far;
-    }
-
-pub returns : goal.returns
-returns c =
-    carrying-ends c.loop-k.invariant (rw c.loop-k.invariant.room at c.in_default.ensures)
 
 pub mark_and_carry-requires : goal.mark_and_carry-requires
 mark_and_carry-requires c =

@@ -1,12 +1,8 @@
 -- `Labels::carry_out` meets its contract: by the usual way one round carries the decision out, above two do.
 -- Assumes nothing.
 use borrow.Author.Rules.{rules}
-use Rattle.placing.specs.code.CarryTwice.{carried-usual, carried-above, carried-stuck-at, may-carry-again}
+use Rattle.placing.specs.code.CarryTwice.{carried-usual, carried-above, may-carry-again}
 use Rattle.placing.proofs.labels.Labels.carry_out.Goals as goal
-
-pub returns-then-not-carry_corner : goal.returns-then-not-carry_corner
-returns-then-not-carry_corner c =
-    carried-stuck-at c.if-not-carry_corner.true c.carry_corner-in-Above.ensures
 
 pub carry_corner-requires-in-Above-2 : goal.carry_corner-requires-in-Above-2
 carry_corner-requires-in-Above-2 c =

@@ -2,11 +2,7 @@
 -- Assumes nothing.
 use Rattle.placing.specs.code.Carry.{carried-meeting, carried-apart}
 use Rattle.placing.proofs.labels.Labels.carry_to.Goals as goal
-
-pub clash-requires : goal.clash-requires
-clash-requires c =
-    let may = c.requires in
-    (rw may.label_is (c.args.self.now.held.in_range.in_range c.args.k may.from), may.to)
+use Rattle.placing.proofs.labels.Labels.carry_to.Goals.{else-state-at-eq1-via-then-state-at-eq1+else-clash, else-state-at-eq1-via-else-state-at-eq1}
 
 pub returns-then-clash : goal.returns-then-clash
 returns-then-clash c =
@@ -14,11 +10,12 @@ returns-then-clash c =
     carried-meeting may _ _ (rw c.index_of-at.ensures at c.if-state-at-eq1.true)
     ((c.clash.ensures _ _ may.label_is may.toward_is).yes_holds c.if-clash.true) c.close_corner.ensures
 
-pub returns-else-clash : goal.returns-else-clash
-returns-else-clash c =
+pub returns : goal.returns
+returns c =
     let may = c.requires in
-    carried-apart may (λ is_open. (c.clash.ensures _ _ may.label_is may.toward_is).no_fails c.if-clash.false)
-
-pub returns-else-state-at-eq1 : goal.returns-else-state-at-eq1
-returns-else-state-at-eq1 c =
-    carried-apart c.requires (λ is_open. absurd (c.if-state-at-eq1.false (rw c.index_of-at.ensures is_open)))
+    elim c.else-state-at-eq1.branch [
+      | else-state-at-eq1-via-then-state-at-eq1+else-clash w ↦
+          carried-apart may (λ is_open. (w.clash.ensures _ _ may.label_is may.toward_is).no_fails w.if-clash.false)
+      | else-state-at-eq1-via-else-state-at-eq1 w ↦
+          carried-apart may (λ is_open. absurd (w.if-state-at-eq1.false (rw c.index_of-at.ensures is_open)))
+    ]

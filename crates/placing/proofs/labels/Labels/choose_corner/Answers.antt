@@ -4,22 +4,13 @@
 use native.Mathlib.Omega.{arith}
 use Rattle.placing.specs.search.Walk.{walk-decided-add-one}
 use Rattle.placing.specs.code.Steps.{up-to-more}
-use Rattle.placing.specs.code.Walking.{refused_none, takes-corner, takes_none, walked_to}
+use Rattle.placing.specs.code.Walking.{takes-corner, takes_none, walked_to}
 use Rattle.placing.proofs.labels.Labels.choose_corner.Goals as goal
 
 pub returns-then-state-i-ne0 : goal.returns-then-state-i-ne0
 returns-then-state-i-ne0 c =
     let may = c.requires in
     walked_to (walk-decided-add-one may.0.walked may.1 c.if-state-i-ne0.true)
-
-pub loop-e-init : goal.loop-e-init
-loop-e-init c =
-    let may = c.requires in
-    (record { walking = may.0; listed = may.1; undecided = c.if-state-i-ne0.false }, refused_none _ may.1)
-
-pub try_open-requires : goal.try_open-requires
-try_open-requires c =
-    (c.loop-e.invariant.0, c.loop-e-test.true)
 
 pub returns-then-try_open : goal.returns-then-try_open
 returns-then-try_open c =

@@ -18,20 +18,12 @@ use Rattle.placing.specs.theorems.Label.{overlap-near}
 use Rattle.placing.specs.theorems.Growth.{meet-exceeds}
 use Rattle.placing.proofs.labels.Labels.clash.Goals as goal
 
-pub distance-requires : goal.distance-requires
-distance-requires c =
-    (c.requires.0.on_x, (c.args.self.now.held.in_range.in_range c.args.j c.requires.1).on_x)
-
 pub returns-then-le : goal.returns-then-le
 returns-then-le c a e own_is toward_is =
     let own = c.args.own in
     let far = (at_most-decides c.doubled.result.0 c.distance.result.0 c.le.ensures).yes_holds c.if-le.true in
     let apart = rw (ap (λ (l : Label). l.site) own_is) at c.distance.ensures in
     decides-no (λ clash. omega (arith, far, c.doubled.ensures, apart, overlap-near (clash.meets X)))
-
-pub growth-requires : goal.growth-requires
-growth-requires c =
-    (c.requires.0, c.args.self.now.held.in_range.in_range c.args.j c.requires.1)
 
 -- How far the labels of two sites grow, from what the pair test gives for the labels made of them.
 grown : {own : Label} {s : Place} {toward : Directions} {growth : Growth} (t : Place) (a e : ℕ)

@@ -1,20 +1,9 @@
 -- `Labels::narrow` meets its contract: the side tried is the next lower end where it has a good choice, else the next upper end.
 -- Assumes nothing.
 use mathlib.Core.Path.{sym, ◌∙◌}
-use native.Mathlib.Omega.{arith}
 use Rattle.placing.specs.code.Chosen.{chosen_good, chosen_none}
 use Rattle.placing.specs.code.Bisect.{narrowed-up, narrowed-down}
 use Rattle.placing.proofs.labels.Labels.narrow.Goals as goal
-
-pub choose-requires : goal.choose-requires
-choose-requires c =
-    let may = c.requires in
-    record {
-      room = may.room;
-      reaches = may.crowding_is.reaches;
-      least = omega (arith, may.between_is.least, may.left);
-      inside = omega (arith, may.between_is.next_is.below, may.between_is.most);
-    }
 
 pub returns-then-is_some : goal.returns-then-is_some
 returns-then-is_some c =

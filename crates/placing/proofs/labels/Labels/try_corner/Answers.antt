@@ -6,10 +6,6 @@ use native.Mathlib.Omega.{arith}
 use Rattle.placing.specs.code.CarryOn.{taken-underway, trial-passes, trial-fails}
 use Rattle.placing.proofs.labels.Labels.try_corner.Goals as goal
 
-pub mark-requires : goal.mark-requires
-mark-requires c =
-    rw c.requires.room c.args.self.now.held.few
-
 pub carry_on-requires : goal.carry_on-requires
 carry_on-requires c =
     let asked = c.requires in

@@ -4,6 +4,9 @@ use mathlib.Core.Path.{◌∙◌}
 use native.Mathlib.Nat.{lt_trans}
 use native.Mathlib.Omega.{arith}
 use Rattle.placing.specs.search.Rows.{row_next}
+use Prim.Native.Nat.{◌+◌, ◌*◌}
+use lib.ListN.{get_or}
+use Rattle.std.proofs.Common.{ne_eqb}
 use Rattle.placing.specs.code.Walking.{tried-shut}
 use Rattle.placing.proofs.labels.Labels.try_open.Goals as goal
 
@@ -20,10 +23,7 @@ try_corner-requires c =
       is_open = row_next _ c.args.i c.args.e c.requires.1 ∙ c.if-state-at-eq1.true;
     }
 
-pub returns-then-state-at-eq1 : goal.returns-then-state-at-eq1
-returns-then-state-at-eq1 c =
-    c.try_corner.ensures
-
-pub returns : goal.returns
-returns c =
-    tried-shut c.args.e c.requires.0.listed c.requires.1 c.if-state-at-eq1.false
+pub returns-else-state-at-eq1 : goal.returns-else-state-at-eq1
+returns-else-state-at-eq1 c =
+    let shut = c.if-state-at-eq1.false in
+    rw (ne_eqb (get_or c.args.state.now.opens (4 * c.args.i + c.args.e) 0) 1 shut) (tried-shut c.args.e c.requires.0.listed c.requires.1 shut)

@@ -3,20 +3,24 @@ use crate::limits::limit;
 use crate::names::accepted_names;
 use crate::question::Question;
 use crate::quoted::quoted;
+use arrayvec::ArrayVec;
 use placing::units::Side;
 use placing::way::Way;
 use plan::limits::TextLimits;
 use plan::output::{output, output_at};
 use plan::plan::Plan;
 use plan::refusal::Refusal;
-use std::alloc::{AllocError, Global};
 use std::fmt;
+use std::io::Write;
 
-// The plan, and the bytes that were lent last.
+// An answer. So many bytes of it are shown and judged.
+pub type Answer = ArrayVec<u8, 512>;
+
+// The plan, and the bytes that were lent last, no more than a full plan's work table.
 #[derive(Drop)]
 pub struct State {
     plan: Plan,
-    lent: Vec<u8>,
+    lent: ArrayVec<u8, { TextLimits::TABLE }>,
 }
 
 // A side as the cases have it.
@@ -32,44 +36,43 @@ impl fmt::Display for Size {
     }
 }
 
-// The answer of a call: what it gives, or the number of its refusal.
-fn answered<T: fmt::Display + Drop>(
-    alloc: Global,
-    answer: Result<T, Refusal>,
-) -> Result<Vec<u8>, AllocError> {
-    let words = match answer {
-        Ok(value) => format!(in alloc; "{value}")?,
-        Err(why) => format!(in alloc; "refused {}", u8::from(why))?,
+// The answer of a call: what it gives, or the number of its refusal. Either fits.
+fn answered<T: fmt::Display + Drop>(answer: Result<T, Refusal>) -> Answer {
+    let mut words = Answer::new();
+    let _fits = match answer {
+        Ok(value) => write!(words, "{value}"),
+        Err(why) => write!(words, "refused {}", u8::from(why)),
     };
-    Ok(words.into_bytes())
+    words
 }
 
 // The answer of a call that gives nothing.
-fn accepted(alloc: Global, answer: Result<(), Refusal>) -> Result<Vec<u8>, AllocError> {
-    answered(alloc, answer.map(|_| "accepted"))
+fn accepted(answer: Result<(), Refusal>) -> Answer {
+    answered(answer.map(|_| "accepted"))
 }
 
 // The whole output for a text, by a way, at the side found or at a given one.
-fn whole_output(
-    alloc: Global,
-    text: &[u8],
-    way: Way,
-    given: Option<Side>,
-) -> Result<Vec<u8>, AllocError> {
+fn whole_output(text: &[u8], way: Way, given: Option<Side>) -> Answer {
     let mut buffer = [0u8; TextLimits::SHEET];
     let n = match given {
         Some(side) => output_at(text, way, side, &mut buffer),
         None => output(text, way, &mut buffer),
     };
-    quoted(alloc, &buffer[..n])
+    quoted(&buffer[..n])
 }
 
 impl State {
-    pub fn new(alloc: Global) -> State {
+    pub fn new() -> State {
         State {
             plan: Plan::start(),
-            lent: Vec::new(alloc),
+            lent: ArrayVec::new(),
         }
+    }
+
+    // Lends so many hyphens, or all that there is room for.
+    fn lend(&mut self, bytes: usize) {
+        self.lent = ArrayVec::from([b'-'; TextLimits::TABLE]);
+        self.lent.truncate(bytes);
     }
 
     // Places the plan by a way: finds its side and chooses there, with one work table.
@@ -78,29 +81,35 @@ impl State {
         self.plan.choose_at(way, side, &mut self.lent)
     }
 
-    // The answer to a question. The bytes that it lends come as hyphens, and are no more than a full plan's work table.
-    pub fn answer(&mut self, alloc: Global, question: &Question) -> Result<Vec<u8>, AllocError> {
+    // The answer of the call that a question asks.
+    fn called(&mut self, question: &Question) -> Answer {
         if let Some(bytes) = question.lends() {
-            self.lent = vec![in alloc; b'-'; bytes.min(TextLimits::TABLE)]?;
+            self.lend(bytes);
         }
         match question {
-            Question::Enter { name, x, y } => accepted(alloc, self.plan.enter(name, *x, *y)),
-            Question::Read(text) => accepted(alloc, self.plan.read(text)),
-            Question::Find { way, .. } => {
-                answered(alloc, self.plan.find(*way, &mut self.lent).map(Size))
-            }
+            Question::Enter { name, x, y } => accepted(self.plan.enter(name, *x, *y)),
+            Question::Read(text) => accepted(self.plan.read(text)),
+            Question::Find { way, .. } => answered(self.plan.find(*way, &mut self.lent).map(Size)),
             Question::Choose { way, side, .. } => {
-                accepted(alloc, self.plan.choose_at(*way, *side, &mut self.lent))
+                accepted(self.plan.choose_at(*way, *side, &mut self.lent))
             }
-            Question::Place { way, .. } => accepted(alloc, self.place(*way)),
-            Question::Side => answered(alloc, self.plan.side().map(Size)),
-            Question::Corner(i) => answered(alloc, self.plan.corner(*i)),
-            Question::Count => answered(alloc, Ok(self.plan.count())),
-            Question::Write(_) => answered(alloc, self.plan.write(&mut self.lent)),
-            Question::Output { way, given, text } => whole_output(alloc, text, *way, *given),
-            Question::Lent => quoted(alloc, &self.lent),
-            Question::Limit(name) => answered(alloc, Ok(limit(name))),
-            Question::Names => quoted(alloc, &accepted_names(alloc)?),
+            Question::Place { way, .. } => accepted(self.place(*way)),
+            Question::Side => answered(self.plan.side().map(Size)),
+            Question::Corner(i) => answered(self.plan.corner(*i)),
+            Question::Count => answered(Ok(self.plan.count())),
+            Question::Write(_) => answered(self.plan.write(&mut self.lent)),
+            Question::Output { way, given, text } => whole_output(text, *way, *given),
+            Question::Lent => quoted(&self.lent),
+            Question::Limit(name) => answered(Ok(limit(name))),
+            Question::Names => quoted(&accepted_names()),
+        }
+    }
+
+    // The answer to a question.
+    pub fn answer(&mut self, question: &[u8]) -> Answer {
+        match Question::parse(question) {
+            Some(question) => self.called(&question),
+            None => answered(Ok("no such call")),
         }
     }
 }

@@ -1,8 +1,6 @@
 // Cases: each is asked, printed as a line and counted.
 use crate::calls::State;
 use crate::parts::{behind_one, split_once};
-use crate::question::Question;
-use std::alloc::{AllocError, Global};
 use std::io;
 
 // How many cases were asked, and how many came right. A count would stop at the greatest number, so that nothing is asked of it.
@@ -19,28 +17,15 @@ impl Tally {
     }
 }
 
-// So many bytes of an answer are shown and judged.
-const MOST_ANSWER: usize = 512;
-
-// The answer to a question.
-fn answer_to(alloc: Global, state: &mut State, question: &[u8]) -> Result<Vec<u8>, AllocError> {
-    let mut answer = match Question::parse(alloc, question)? {
-        Some(question) => state.answer(alloc, &question)?,
-        None => Vec::from_slice(alloc, b"no such call")?,
-    };
-    answer.truncate(MOST_ANSWER);
-    Ok(answer)
-}
-
 // Asks a question, and prints and counts whether its answer is the one that should come.
 fn ask(
-    rt: &(impl Print + AllocGlobal),
+    rt: &impl Print,
     state: &mut State,
     tally: &mut Tally,
     question: &[u8],
     should: &[u8],
 ) -> io::Result<()> {
-    let came = answer_to(rt.alloc(), state, question)?;
+    let came = state.answer(question);
     let right = came.as_slice() == should;
     tally.count(right);
     rt.write_all(question)?;
@@ -55,12 +40,7 @@ fn ask(
 }
 
 // Asks the question of a line, or prints a line that has none.
-fn ask_line(
-    rt: &(impl Print + AllocGlobal),
-    state: &mut State,
-    tally: &mut Tally,
-    line: &[u8],
-) -> io::Result<()> {
+fn ask_line(rt: &impl Print, state: &mut State, tally: &mut Tally, line: &[u8]) -> io::Result<()> {
     match split_once(line, b'=') {
         Some((question, behind)) => ask(rt, state, tally, question, behind_one(behind)),
         None => {
@@ -71,8 +51,8 @@ fn ask_line(
 }
 
 // Goes through the cases.
-pub fn ask_all(rt: &(impl Print + AllocGlobal), cases: &[u8]) -> io::Result<()> {
-    let mut state = State::new(rt.alloc());
+pub fn ask_all(rt: &impl Print, cases: &[u8]) -> io::Result<()> {
+    let mut state = State::new();
     let mut tally = Tally::default();
     for line in cases.split_inclusive(|b| *b == b'\n') {
         let line = line.strip_suffix(b"\n").unwrap_or(line);

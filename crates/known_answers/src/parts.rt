@@ -1,18 +1,26 @@
 // Parts of a line.
+ghost use Rattle.std.specs.Prelude.{◌≡◌, ◌≤◌, ◌+◌, ◌∷◌, ◌++◌, length, take, drop, IfSome};
 
 // What stands before and what behind the first such byte of a text; none where it has no such byte.
-pub fn split_once(text: &[u8], byte: u8) -> Option<(&[u8], &[u8])> {
+pub fn split_once(text: &[u8], byte: u8) -> Option<(&[u8], &[u8])>
+    ensures { IfSome result (λ parts. text.now ≡ parts.0.now ++ byte ∷ parts.1.now) }
+{
     let at = text.iter().position(|b| *b == byte)?;
     Some((&text[..at], &text[at + 1..]))
 }
 
 // The same, where all of a text with no such byte stands before it.
-pub fn split_or_all(text: &[u8], byte: u8) -> (&[u8], &[u8]) {
+pub fn split_or_all(text: &[u8], byte: u8) -> (&[u8], &[u8])
+    ensures front { result.0.now ≡ take (length result.0.now) text.now }
+    ensures fits { length result.0.now + length result.1.now ≤ length text.now }
+{
     split_once(text, byte).unwrap_or((text, &[]))
 }
 
 // The text without its first byte.
-pub fn behind_one(text: &[u8]) -> &[u8] {
+pub fn behind_one(text: &[u8]) -> &[u8]
+    ensures { result.now ≡ drop 1 text.now }
+{
     text.get(1..).unwrap_or(&[])
 }
 

@@ -4,21 +4,24 @@
 // These, and `output`, are asked by the usual way of placing, and above where the word `above` stands in front of the call. Anywhere
 // else, or in front of another call, that word makes the call an unknown one.
 use crate::parts::{behind_one, numbers_in, split_or_all};
-use crate::quoted::unquoted;
+use crate::quoted::{put, unquoted};
 use crate::sites::{LINES, lines};
+use arrayvec::ArrayVec;
 use placing::units::{HalfUnits, Side};
 use placing::way::Way;
 use plan::number::side_from;
-use std::alloc::{AllocError, Global};
+
+// A question's text has no more bytes than the lines of the sites.
+type Text = ArrayVec<u8, LINES>;
 
 #[derive(Drop)]
 pub enum Question {
     Enter {
-        name: Vec<u8>,
+        name: Text,
         x: u64,
         y: u64,
     },
-    Read(Vec<u8>),
+    Read(Text),
     Find {
         way: Way,
         table: usize,
@@ -39,10 +42,10 @@ pub enum Question {
     Output {
         way: Way,
         given: Option<Side>,
-        text: Vec<u8>,
+        text: Text,
     },
     Lent,
-    Limit(Vec<u8>),
+    Limit(Text),
     Names,
 }
 
@@ -75,25 +78,25 @@ impl Words<'_> {
         })
     }
 
-    // The text, which has no more bytes than the lines of the sites.
-    fn text(&self, alloc: Global) -> Result<Vec<u8>, AllocError> {
+    // The text.
+    fn text(&self) -> Text {
         match self.quoted {
-            Some(quoted) => unquoted(alloc, quoted, LINES),
-            None => lines(alloc, self.numbers[0] as usize),
+            Some(quoted) => unquoted(quoted),
+            None => first_lines(self.numbers[0] as usize),
         }
     }
 
     // The question, where the call takes a way of placing. The words of the calls stand here alone, so that they are matched as text.
-    fn placing(&self, alloc: Global, way: Way) -> Result<Option<Question>, AllocError> {
+    fn placing(&self, way: Way) -> Option<Question> {
         let [a, b] = self.numbers;
-        Ok(Some(match self.call {
+        Some(match self.call {
             b"find" => Question::Find {
                 way,
                 table: a as usize,
             },
             b"choose" => Question::Choose {
                 way,
-                side: side_from(&self.text(alloc)?),
+                side: side_from(&self.text()),
                 table: a as usize,
             },
             b"choose-number" => Question::Choose {
@@ -108,33 +111,40 @@ impl Words<'_> {
             b"output" => Question::Output {
                 way,
                 given: None,
-                text: self.text(alloc)?,
+                text: self.text(),
             },
-            b"output-at" => output_at(alloc, way, &self.text(alloc)?)?,
-            _ => return Ok(None),
-        }))
+            b"output-at" => output_at(way, &self.text()),
+            _ => return None,
+        })
     }
 
     // The question, where the call takes no way.
-    fn other(&self, alloc: Global) -> Result<Option<Question>, AllocError> {
+    fn other(&self) -> Option<Question> {
         let [a, b] = self.numbers;
-        Ok(Some(match self.call {
+        Some(match self.call {
             b"enter" => Question::Enter {
-                name: self.text(alloc)?,
+                name: self.text(),
                 x: a,
                 y: b,
             },
-            b"read" => Question::Read(self.text(alloc)?),
+            b"read" => Question::Read(self.text()),
             b"side" => Question::Side,
             b"corner" => Question::Corner(a as usize),
             b"count" => Question::Count,
             b"write" => Question::Write(a as usize),
             b"lent" => Question::Lent,
-            b"limit" => Question::Limit(self.text(alloc)?),
+            b"limit" => Question::Limit(self.text()),
             b"names" => Question::Names,
-            _ => return Ok(None),
-        }))
+            _ => return None,
+        })
     }
+}
+
+// The first so many bytes of the lines of the sites.
+fn first_lines(bytes: usize) -> Text {
+    let mut text = Text::from(lines());
+    text.truncate(bytes);
+    text
 }
 
 // A number as a side, in range or not.
@@ -143,13 +153,15 @@ fn numbered(number: u64) -> Side {
 }
 
 // The list stands behind the word of a side and a space.
-fn output_at(alloc: Global, way: Way, text: &[u8]) -> Result<Question, AllocError> {
-    let (side, list) = split_or_all(text, b' ');
-    Ok(Question::Output {
+fn output_at(way: Way, text: &[u8]) -> Question {
+    let (side, behind) = split_or_all(text, b' ');
+    let mut list = Text::new();
+    put(&mut list, behind);
+    Question::Output {
         way,
         given: Some(side_from(side)),
-        text: Vec::from_slice(alloc, list)?,
-    })
+        text: list,
+    }
 }
 
 impl Question {
@@ -165,16 +177,14 @@ impl Question {
     }
 
     // The question of these words; none where no such call is asked.
-    pub fn parse(alloc: Global, question: &[u8]) -> Result<Option<Question>, AllocError> {
+    pub fn parse(question: &[u8]) -> Option<Question> {
         let above = question.strip_prefix(b"above ");
-        let Some(words) = Words::split(above.unwrap_or(question)) else {
-            return Ok(None);
-        };
+        let words = Words::split(above.unwrap_or(question))?;
         match above {
-            Some(_) => words.placing(alloc, Way::Above),
-            None => match words.placing(alloc, Way::Usual)? {
-                Some(question) => Ok(Some(question)),
-                None => words.other(alloc),
+            Some(_) => words.placing(Way::Above),
+            None => match words.placing(Way::Usual) {
+                Some(question) => Some(question),
+                None => words.other(),
             },
         }
     }

@@ -1,6 +1,17 @@
 // Text in quotes, as the cases have it.
-use std::alloc::{AllocError, Global};
+ghost use Rattle.std.specs.Prelude.{◌≡◌, ◌-◌, ◌++◌, take};
+ghost use Rattle.arrayvec.specs.ArrayVec.{array_vec_len};
+
+use arrayvec::ArrayVec;
+use std::io::Write;
 use std::{iter, slice};
+
+// Appends as many of the bytes as fit.
+pub fn put<const N: usize>(out: &mut ArrayVec<u8, N>, bytes: &[u8])
+    ensures { out.new.items ≡ out.old.items ++ take (N - array_vec_len out.old) bytes.now }
+{
+    let _n = out.write(bytes);
+}
 
 // A byte as it is shown: a zero, a tab and a line feed are made visible.
 fn visible(byte: &u8) -> &[u8] {
@@ -12,14 +23,15 @@ fn visible(byte: &u8) -> &[u8] {
     }
 }
 
-// Bytes in quotes. They may be no text, so that this is no Display.
-pub fn quoted(alloc: Global, bytes: &[u8]) -> Result<Vec<u8>, AllocError> {
-    let mut shown = vec![in alloc; b'"']?;
+// Bytes in quotes, as many as fit. They may be no text, so that this is no Display.
+pub fn quoted<const N: usize>(bytes: &[u8]) -> ArrayVec<u8, N> {
+    let mut shown = ArrayVec::new();
+    put(&mut shown, b"\"");
     for byte in bytes {
-        shown.extend_from_slice(visible(byte))?;
+        put(&mut shown, visible(byte));
     }
-    shown.push(b'"')?;
-    Ok(shown)
+    put(&mut shown, b"\"");
+    shown
 }
 
 // What the byte behind a backslash stands for.
@@ -33,13 +45,15 @@ fn escaped(byte: u8) -> u8 {
     }
 }
 
-// The bytes that a text between quotes stands for, so many at most.
-pub fn unquoted(alloc: Global, text: &[u8], most: usize) -> Result<Vec<u8>, AllocError> {
+// The bytes that a text between quotes stands for, as many as fit.
+pub fn unquoted<const N: usize>(text: &[u8]) -> ArrayVec<u8, N> {
     let mut rest = text.iter();
-    iter::from_fn(|| match *rest.next()? {
+    let bytes = iter::from_fn(|| match *rest.next()? {
         b'\\' => rest.next().map(|byte| escaped(*byte)),
         byte => Some(byte),
-    })
-    .take(most)
-    .collect(alloc)
+    });
+    let mut stands_for = ArrayVec::new();
+    // There is room for all that are taken.
+    let _fits = stands_for.extend(bytes.take(N));
+    stands_for
 }

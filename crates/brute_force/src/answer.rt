@@ -1,31 +1,37 @@
 // An answer to a list.
-use crate::labels::Label;
+ghost use Rattle.std.specs.Prelude.{◌≡◌, None};
+
+use crate::labels::Labels;
 use crate::side::Side;
 use crate::sites::NAMES;
-use std::alloc::{AllocError, Global};
+use std::fmt;
 
 // A side, and the labels of a choice that is good there, if one is.
 #[derive(Drop)]
 pub struct Answer {
     pub side: Side,
-    pub labels: Option<Vec<Label>>,
+    pub labels: Option<Labels>,
 }
 
 impl Answer {
     // No choice is good at this side.
-    pub fn none(side: Side) -> Answer {
+    pub fn none(side: Side) -> Answer
+        ensures { result ≡ record { side = side; labels = None } }
+    {
         Answer { side, labels: None }
     }
+}
 
-    // The sheet, or the refusal where no choice is good, written from documents 01 and 02 alone.
-    pub fn output(&self, alloc: Global) -> Result<String, AllocError> {
+// The sheet, or the refusal where no choice is good, from documents 01 and 02 alone.
+impl fmt::Display for Answer {
+    fn fmt<W: fmt::Write>(&self, f: &mut fmt::Formatter<W>) -> fmt::Result {
         let Some(labels) = &self.labels else {
-            return String::from_str(alloc, "refused\t12\n");
+            return writeln!(f, "refused\t12");
         };
-        let mut sheet = format!(in alloc; "side\t{}\n", self.side)?;
+        writeln!(f, "side\t{}", self.side)?;
         for (label, name) in labels.iter().zip(NAMES.chars()) {
-            writeln!(sheet, "{name}\t{}\t{}", label.place, label.corner)?;
+            writeln!(f, "{name}\t{}\t{}", label.place, label.corner)?;
         }
-        Ok(sheet)
+        Ok(())
     }
 }

@@ -2,14 +2,14 @@
 //
 // Each rule forbids the sides above some limit. So a list of corners is good at a side exactly when the side is at most the least of
 // its limits, and the greatest side with a good choice is the greatest of these over all lists of corners.
-ghost use Rattle.std.specs.Prelude.{◌≤◌};
+ghost use Rattle.std.specs.Prelude.{◌≡◌, ◌≤◌};
+ghost use Rattle.brute_force.specs.Sides.{IsSideFrom};
 
 use crate::answer::Answer;
 use crate::labels::{Label, labels_of};
 use crate::side::Side;
-use crate::sites::Place;
+use crate::sites::{MOST_SITES, Place};
 use placing::way::Way;
-use std::alloc::{AllocError, Global};
 
 // Which lists of corners are good: of corners 1 to `last`, with no two labels that meet and, where crowding counts, no crowded corner.
 #[derive(Clone, Copy)]
@@ -20,7 +20,7 @@ struct Rules {
 }
 
 // The first list of corners.
-const FIRST: [u8; 7] = [1; 7];
+const FIRST: [u8; MOST_SITES] = [1; MOST_SITES];
 
 // The number of a list of corners, in list order, and its limit.
 #[derive(Clone, Copy)]
@@ -160,48 +160,47 @@ impl Rules {
 }
 
 // The answer by a way: the greatest side that has a good choice, or free, with the first good choice there.
-pub fn enumerate(alloc: Global, sites: &[Place], way: Way) -> Result<Answer, AllocError> {
+pub fn enumerate(sites: &[Place], way: Way) -> Answer
+    ensures { IsSideFrom 0 result.side }
+{
     let rules = Rules::of(way);
-    let mut labels = labels_of(alloc, sites, &FIRST)?;
+    let mut labels = labels_of(sites, &FIRST);
     let Some(best) = rules.best(&mut labels, Side::Number(0)) else {
-        return Ok(Answer::none(Side::Number(0)));
+        return Answer::none(Side::Number(0));
     };
     rules.set_corners(&mut labels, best.number);
-    Ok(Answer {
-        side: best.limit,
+    Answer {
+        side: best.limit.or_free(),
         labels: Some(labels),
-    })
+    }
 }
 
 // The answer by a way at a given side: the first list of corners that is good there.
-pub fn enumerate_at(
-    alloc: Global,
-    sites: &[Place],
-    way: Way,
-    side: Side,
-) -> Result<Answer, AllocError> {
+pub fn enumerate_at(sites: &[Place], way: Way, side: Side) -> Answer
+    ensures { result.side ≡ side }
+{
     let rules = Rules::of(way);
-    let mut labels = labels_of(alloc, sites, &FIRST)?;
+    let mut labels = labels_of(sites, &FIRST);
     // A loop, since each list of corners is set in the labels that are the answer.
     for number in 0..rules.count(&labels) {
         rules.set_corners(&mut labels, number);
         if rules.all_limits(&labels, |limit| limit >= side) {
-            return Ok(Answer {
+            return Answer {
                 side,
                 labels: Some(labels),
-            });
+            };
         }
     }
-    Ok(Answer::none(side))
+    Answer::none(side)
 }
 
 // Some list of the four corners has no two labels that meet at 2 × side + 1; crowding plays no part.
-pub fn holds_over_twice(alloc: Global, sites: &[Place], side: u64) -> Result<bool, AllocError> {
+pub fn holds_over_twice(sites: &[Place], side: u64) -> bool {
     let crowded_or_not = Rules {
         last: 4,
         crowding: false,
     };
-    let mut labels = labels_of(alloc, sites, &FIRST)?;
+    let mut labels = labels_of(sites, &FIRST);
     let twice = Side::Number(side.saturating_mul(2));
-    Ok(crowded_or_not.best(&mut labels, twice).is_some())
+    crowded_or_not.best(&mut labels, twice).is_some()
 }

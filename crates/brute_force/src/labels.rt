@@ -1,9 +1,9 @@
 // The labels of a list.
-use crate::sites::Place;
-use std::alloc::{AllocError, Global};
+use crate::sites::{MOST_SITES, Place};
+use arrayvec::ArrayVec;
 
 // The place of a site and the corner of its label: a number, since the rules number the corners, 1 to 4, and order choices by them.
-#[derive(Clone, Copy)]
+#[derive(Clone, Copy, Default)]
 pub struct Label {
     pub place: Place,
     pub corner: u8,
@@ -21,14 +21,17 @@ impl Label {
     }
 }
 
-// The labels of these sites at these corners.
-pub fn labels_of(alloc: Global, sites: &[Place], corners: &[u8]) -> Result<Vec<Label>, AllocError> {
-    sites
-        .iter()
-        .zip(corners)
-        .map(|(place, corner)| Label {
+// The labels of a list.
+pub type Labels = ArrayVec<Label, MOST_SITES>;
+
+// The labels of these sites at these corners, of the first seven sites where there are more.
+pub fn labels_of(sites: &[Place], corners: &[u8]) -> Labels {
+    let mut labels = ArrayVec::new();
+    let _ = labels.extend(
+        sites.iter().zip(corners).map(|(place, corner)| Label {
             place: *place,
             corner: *corner,
-        })
-        .collect(alloc)
+        }),
+    );
+    labels
 }

@@ -2,8 +2,8 @@
 ghost use Rattle.std.specs.Prelude.{◌≤◌};
 
 use crate::random::Random;
-use crate::sites::Place;
-use std::alloc::{AllocError, Global};
+use crate::sites::{MOST_SITES, Place};
+use arrayvec::ArrayVec;
 
 // How many places are drawn for one list.
 const DRAWS: u32 = 40;
@@ -112,16 +112,16 @@ fn draw_near(random: &mut Random, frame: Frame) -> Place {
 }
 
 // A list of 1 to 7 sites: of as many as are drawn for it, or fewer where the draws do not find so many places.
-pub fn draw_sites(alloc: Global, random: &mut Random) -> Result<Vec<Place>, AllocError> {
+pub fn draw_sites(random: &mut Random) -> ArrayVec<Place, MOST_SITES> {
     let count = random.up_to(6) as usize + 1;
     let frame = draw_frame(random);
-    let mut sites = Vec::new(alloc);
-    // A loop, since a push can fail.
+    let mut sites = ArrayVec::new();
+    // A loop, since a draw changes the generator.
     for _ in 0..DRAWS {
         let place = draw_place(random, frame);
         if sites.len() < count && !sites.contains(&place) {
-            sites.push(place)?;
+            sites.push(place);
         }
     }
-    Ok(sites)
+    sites
 }

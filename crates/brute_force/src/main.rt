@@ -12,6 +12,7 @@ mod product;
 mod random;
 mod side;
 mod sites;
+mod text;
 mod trial;
 mod wrong;
 

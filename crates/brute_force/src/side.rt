@@ -1,5 +1,10 @@
 // Sides, in half units.
+ghost use Rattle.brute_force.specs.Sides.{IsSideFrom};
+
 use std::fmt;
+
+// The greatest number that is a side.
+pub const GREATEST: u64 = 20_000;
 
 // A side; as a limit, the greatest side that a rule allows. Free, where no side is too large, is the greatest, so this is no Option.
 #[derive(Clone, Copy, PartialEq, Eq, PartialOrd, Ord)]
@@ -9,6 +14,16 @@ pub enum Side {
 }
 
 impl Side {
+    // The greatest side that this limit allows.
+    pub fn or_free(self) -> Side
+        ensures { IsSideFrom 0 result }
+    {
+        match self {
+            Side::Number(h) if h <= GREATEST => self,
+            _ => Side::Free,
+        }
+    }
+
     pub fn is_even(self) -> bool {
         matches!(self, Side::Number(h) if h % 2 == 0)
     }

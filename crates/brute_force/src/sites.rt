@@ -1,11 +1,13 @@
 // The sites of a small list, without their names.
-use std::alloc::{AllocError, Global};
 use std::fmt;
+
+// No list has more sites.
+pub const MOST_SITES: usize = 7;
 
 // The names of the sites, in list order.
 pub const NAMES: &str = "ABCDEFG";
 
-#[derive(Clone, Copy, PartialEq, Eq)]
+#[derive(Clone, Copy, Default, PartialEq, Eq)]
 pub struct Place {
     pub x: u32,
     pub y: u32,
@@ -17,13 +19,17 @@ impl fmt::Display for Place {
     }
 }
 
-// The list as text.
-pub fn list_of(alloc: Global, sites: &[Place]) -> Result<String, AllocError> {
-    let mut list = String::new(alloc);
-    for (place, name) in sites.iter().zip(NAMES.chars()) {
-        writeln!(list, "{name}\t{place}")?;
+// A list, to be written as text.
+#[derive(Clone, Copy)]
+pub struct List<'a>(pub &'a [Place]);
+
+impl fmt::Display for List<'_> {
+    fn fmt<W: fmt::Write>(&self, f: &mut fmt::Formatter<W>) -> fmt::Result {
+        for (place, name) in self.0.iter().zip(NAMES.chars()) {
+            writeln!(f, "{name}\t{place}")?;
+        }
+        Ok(())
     }
-    Ok(list)
 }
 
 // Three sites or more, all with one x or all with one y.

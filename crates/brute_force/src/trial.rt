@@ -7,7 +7,9 @@ use crate::lists::draw_sites;
 use crate::product::output_of;
 use crate::random::Random;
 use crate::side::Side;
-use crate::sites::{Place, in_one_row, list_of};
+use crate::sites::{List, Place, in_one_row};
+use crate::text::{SHEET_BYTES, text_of};
+use arrayvec::ArrayString;
 use placing::way::Way;
 use std::io;
 
@@ -17,21 +19,21 @@ const MOST_GIVEN: usize = 5;
 // The product's output by a way, at the side found or at a given one, is not that of this answer, byte for byte. If so, the way, the
 // list, both outputs and the given side are printed.
 fn differs(
-    rt: &(impl Print + AllocGlobal),
+    rt: &impl Print,
     sites: &[Place],
     way: Way,
     given: Option<Side>,
     right: &Answer,
 ) -> io::Result<bool> {
-    let came = output_of(rt.alloc(), sites, way, given)?;
-    let should = right.output(rt.alloc())?;
+    let came = output_of(sites, way, given);
+    let should: ArrayString<SHEET_BYTES> = text_of(right);
     if came.as_slice() == should.as_bytes() {
         return Ok(false);
     }
-    let list = list_of(rt.alloc(), sites)?;
     print!(rt;
-        "difference, {}\n{list}should be\n{should}came\n",
-        name_of(way)
+        "difference, {}\n{}should be\n{should}came\n",
+        name_of(way),
+        List(sites)
     )?;
     rt.write_all(&came)?;
     if let Some(side) = given {
@@ -41,21 +43,20 @@ fn differs(
 }
 
 // The side of the usual way is a number, and yet some choice holds at 2 × side + 1. If so, the list is printed.
-fn over_twice(rt: &(impl Print + AllocGlobal), sites: &[Place], side: Side) -> io::Result<bool> {
+fn over_twice(rt: &impl Print, sites: &[Place], side: Side) -> io::Result<bool> {
     let Side::Number(h) = side else {
         return Ok(false);
     };
-    let holds = holds_over_twice(rt.alloc(), sites, h)?;
+    let holds = holds_over_twice(sites, h);
     if holds {
-        let list = list_of(rt.alloc(), sites)?;
-        print!(rt; "a choice holds at 2 x side + 1\n{list}")?;
+        print!(rt; "a choice holds at 2 x side + 1\n{}", List(sites))?;
     }
     Ok(holds)
 }
 
 // Judges the product by this answer for a list, and counts the list, by one way.
 fn judge_by(
-    rt: &(impl Print + AllocGlobal),
+    rt: &impl Print,
     tally: &mut Tally,
     sites: &[Place],
     way: Way,
@@ -73,7 +74,7 @@ fn judge_by(
 
 // The same by each way; and counts what the list is and how its two sides compare.
 pub fn judge(
-    rt: &(impl Print + AllocGlobal),
+    rt: &impl Print,
     tally: &mut Tally,
     sites: &[Place],
     usual: &Answer,
@@ -90,7 +91,7 @@ pub fn judge(
 
 // Judges the product at the side of this answer, as a given one, and counts the side.
 pub fn judge_at(
-    rt: &(impl Print + AllocGlobal),
+    rt: &impl Print,
     tally: &mut Tally,
     sites: &[Place],
     way: Way,
@@ -106,28 +107,24 @@ pub fn judge_at(
 
 // Judges the product at given sides for a list with this side by a way, and counts them.
 fn judge_given(
-    rt: &(impl Print + AllocGlobal),
+    rt: &impl Print,
     tally: &mut Tally,
     sites: &[Place],
     way: Way,
     side: Side,
 ) -> io::Result<()> {
     for h in given(sites, side) {
-        let right = enumerate_at(rt.alloc(), sites, way, h)?;
+        let right = enumerate_at(sites, way, h);
         judge_at(rt, tally, sites, way, &right)?;
     }
     Ok(())
 }
 
 // Draws a list and judges the product by enumeration.
-pub fn trial(
-    rt: &(impl Print + AllocGlobal),
-    tally: &mut Tally,
-    random: &mut Random,
-) -> io::Result<()> {
-    let sites = draw_sites(rt.alloc(), random)?;
-    let usual = enumerate(rt.alloc(), &sites, Way::Usual)?;
-    let above = enumerate(rt.alloc(), &sites, Way::Above)?;
+pub fn trial(rt: &impl Print, tally: &mut Tally, random: &mut Random) -> io::Result<()> {
+    let sites = draw_sites(random);
+    let usual = enumerate(&sites, Way::Usual);
+    let above = enumerate(&sites, Way::Above);
     judge(rt, tally, &sites, &usual, &above)?;
     if sites.len() <= MOST_GIVEN {
         judge_given(rt, tally, &sites, Way::Usual, usual.side)?;

@@ -8,7 +8,6 @@ use crate::side::Side;
 use crate::sites::Place;
 use crate::trial::{judge, judge_at};
 use placing::way::Way;
-use std::alloc::{AllocError, Global};
 use std::io;
 
 // A column of seven sites; the first three are A, B, C.
@@ -23,16 +22,16 @@ const SEVEN: [Place; 7] = [
 ];
 
 // An answer with these corners for the first of the sites.
-fn answer(alloc: Global, side: u64, corners: &[u8]) -> Result<Answer, AllocError> {
-    Ok(Answer {
+fn answer(side: u64, corners: &[u8]) -> Answer {
+    Answer {
         side: Side::Number(side),
-        labels: Some(labels_of(alloc, &SEVEN, corners)?),
-    })
+        labels: Some(labels_of(&SEVEN, corners)),
+    }
 }
 
 // Judges the product for A, B, C at given sides by a way.
 fn judge_at_sides(
-    rt: &(impl Print + AllocGlobal),
+    rt: &impl Print,
     tally: &mut Tally,
     way: Way,
     answers: [Answer; 3],
@@ -46,8 +45,7 @@ fn judge_at_sides(
 // At the side found: first a side that is too small by one, so that a choice holds at twice it and one more, and above the spot the usual
 // answer; then another last corner. At given sides other corners, corners where no choice is good, and none where one is; above the spot
 // the other corners are the usual ones there.
-pub fn print_wrong(rt: &(impl Print + AllocGlobal)) -> io::Result<()> {
-    let alloc = rt.alloc();
+pub fn print_wrong(rt: &impl Print) -> io::Result<()> {
     let column = &SEVEN[..3];
     let mut tally = Tally::default();
     println!(rt; "meant to come out wrong:")?;
@@ -55,29 +53,29 @@ pub fn print_wrong(rt: &(impl Print + AllocGlobal)) -> io::Result<()> {
         rt,
         &mut tally,
         column,
-        &answer(alloc, 5, &[3, 1, 1])?,
-        &answer(alloc, 6, &[3, 1, 1])?,
+        &answer(5, &[3, 1, 1]),
+        &answer(6, &[3, 1, 1]),
     )?;
     judge(
         rt,
         &mut tally,
         column,
-        &answer(alloc, 6, &[3, 1, 2])?,
-        &answer(alloc, 8, &[1, 1, 2])?,
+        &answer(6, &[3, 1, 2]),
+        &answer(8, &[1, 1, 2]),
     )?;
     let usual = [
-        answer(alloc, 5, &[1, 1, 1])?,
-        answer(alloc, 7, &[3, 1, 1])?,
+        answer(5, &[1, 1, 1]),
+        answer(7, &[3, 1, 1]),
         Answer::none(Side::Number(6)),
     ];
     judge_at_sides(rt, &mut tally, Way::Usual, usual)?;
     let above = [
-        answer(alloc, 5, &[3, 1, 1])?,
-        answer(alloc, 9, &[1, 1, 1])?,
+        answer(5, &[3, 1, 1]),
+        answer(9, &[1, 1, 1]),
         Answer::none(Side::Number(8)),
     ];
     judge_at_sides(rt, &mut tally, Way::Above, above)?;
-    let of_seven = answer(alloc, 1, &[1, 1, 1, 0, 0, 0, 0])?;
+    let of_seven = answer(1, &[1, 1, 1, 0, 0, 0, 0]);
     judge(rt, &mut tally, &SEVEN, &of_seven, &of_seven)?;
     print!(rt; "{tally}")
 }

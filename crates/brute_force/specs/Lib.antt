@@ -1,0 +1,2 @@
+-- What the functions promise.
+pub mod Sides

@@ -65,6 +65,7 @@ impl Plan {
         ensures { LinesReads text.now result self.new }
     {
         let mut at = 0;
+        // The step is the length of a line, so this is no `for`.
         while at < text.len() {
             let number = self.count() + 1;
             match self.enter_line(text, at) {

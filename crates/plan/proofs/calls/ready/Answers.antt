@@ -1,4 +1,4 @@
--- `unready` meets its contract, test by test. Assumes nothing.
+-- `ready` meets its contract, test by test. Assumes nothing.
 use Prim.Native.Nat.{◌*◌}
 use borrow.Author.Tests.{eq-eqb, ne_eqb, lt-ltb, le-ltb}
 use Rattle.plan.proofs.calls.ready.Goals as goal

@@ -86,9 +86,8 @@ fn lower_row(sites: &[Place], reaches: &mut [u32; Limits::ALL_CORNERS], top: Hal
     ensures { ReachesOver sites.now top.0 (RowsBelow (i + 1)) reaches.new }
 {
     let s = sites[i];
-    // By number, since the reaches of both sites are lowered.
-    for j in i + 1..sites.len() {
-        lower_pair(reaches, top, i, s, j, &sites[j]);
+    for (j, t) in sites.iter().enumerate().skip(i + 1) {
+        lower_pair(reaches, top, i, s, j, t);
     }
 }
 

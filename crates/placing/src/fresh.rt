@@ -20,7 +20,7 @@ fn is_open(reach: HalfUnits, side: HalfUnits) -> u8
     requires { Judged side }
     ensures { OpenByte reach.0 side.0 result }
 {
-    if side.doubled() <= reach { 1 } else { 0 }
+    u8::from(side.doubled() <= reach)
 }
 
 // The state of `n` sites at a side, before anything is decided.

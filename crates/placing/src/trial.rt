@@ -43,7 +43,7 @@ fn one_more(left: Left, c: u8) -> Left
 fn mark_of(decided: u8) -> u8
     ensures { result ≡ mark_of decided }
 {
-    if decided == 0 { 0 } else { 1 }
+    u8::from(decided != 0)
 }
 
 impl State {

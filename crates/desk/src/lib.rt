@@ -4,12 +4,11 @@
 ghost use Rattle.std.specs.Prelude.{◌≤◌, length};
 
 use std::env::FillError;
-use std::fmt::Display;
 use std::io::Write;
 use std::rt::Env;
 
 // A word, from the front. One that does not fit is longer than every word that a program knows, and counts as none; but its first bytes
-// stand there. An array and a length, since a String's memory can run out.
+// stand there. An array and a length, since a String's memory can run out, and a word cannot fail.
 #[derive(Clone, Copy)]
 pub struct Word {
     bytes: [u8; 8],
@@ -50,12 +49,6 @@ pub fn word_count(rt: &impl Env) -> usize {
 }
 
 // Says some words on standard error. Where they cannot be written there is nowhere left to say so.
-pub fn tell<W: Write, D: Display + Drop>(err: &mut W, words: D) {
-    let _ = write!(err, "{words}");
-}
-
-pub fn tell_lines<W: Write>(err: &mut W, lines: &[&str]) {
-    for line in lines {
-        tell(err, *line);
-    }
+pub fn tell<W: Write>(err: &mut W, words: &[u8]) {
+    let _ = err.write_all(words);
 }

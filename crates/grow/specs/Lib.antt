@@ -2,5 +2,6 @@
 pub mod Asked
 pub mod AskedLaws
 -- What is written.
+pub mod Digits
 pub mod Text
 pub mod TextLaws

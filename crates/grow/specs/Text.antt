@@ -1,6 +1,7 @@
 -- What the program writes, and then a line feed: the number, the word never, or the refusal.
 -- Assumes nothing.
-use Rattle.std.specs.Prelude.{List, [], ◌∷◌, ◌++◌, ℕ, Ok, Err}
+use Rattle.std.specs.Prelude.{◌≡◌, List, [], ◌∷◌, ◌++◌, ℕ, Ok, Err, take}
+use Rattle.desk.specs.Words.{IsPrefixLen}
 use Rattle.placing.specs.declared.units.Growth.{Growth}
 use Rattle.placing.specs.declared.units.Growth.TheVariants.{UpTo, Never}
 use Rattle.plan.specs.rules.Refusal.{number_of}
@@ -20,3 +21,13 @@ refusal_text number = refused_word ++ (tab ∷ decimal number)
 abbrev pub asked_text : AskedGrowth → List ℕ
 asked_text (Ok growth) = growth_text growth
 asked_text (Err why) = refusal_text (number_of why)
+
+-- A text in an array: its first `len` bytes.
+pub record Text : Type 0 where
+  pub bytes : List ℕ
+  pub len : ℕ
+
+-- The array holds these bytes.
+pub record Holds (text : Text) (bytes : List ℕ) : Type 0 where
+  pub counted : IsPrefixLen text.len text.bytes
+  pub held : take text.len text.bytes ≡ bytes

@@ -35,8 +35,8 @@ fn label_at(rt: &impl Env, first: usize) -> LabelWords
     }
 }
 
-// The number that a word writes, up to 10,000. Any other word gives 10,001, which is neither a coordinate nor a corner: asking how far
-// labels grow takes any numbers.
+// The number that a word writes, up to 10,000. Any other word gives 10,001, which is neither a coordinate nor a corner. A number and no
+// Option, since `how_far` takes any numbers, and `outside` and the edit no_number_as_10000 speak of it.
 pub(crate) fn number_given(word: &Word) -> u32
     ensures { result ≡ number_given word.now }
 {

@@ -2,7 +2,6 @@
 ghost use Rattle.std.specs.Prelude.{◌≤◌};
 
 use crate::asked::{LabelWords, SixWords, number_given};
-use desk::tell;
 use placing::units::Limits;
 use std::io::Write;
 
@@ -31,6 +30,6 @@ fn first_refused(before: usize, label: &LabelWords) -> Option<(usize, &'static s
 pub(crate) fn tell_refused<W: Write>(err: &mut W, words: &SixWords) {
     let refused = first_refused(0, &words.own).or_else(|| first_refused(3, &words.other));
     if let Some((word, rule)) = refused {
-        tell(err, format_args!("grow: word {word}: {rule}\n"));
+        let _ = writeln!(err, "grow: word {word}: {rule}");
     }
 }

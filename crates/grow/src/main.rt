@@ -22,7 +22,7 @@ fn main(rt: HostRuntime) {
     if write_growth(&mut rt.stdout(), &mut rt.stderr(), &words).is_err() {
         tell(
             &mut rt.stderr(),
-            "grow: standard output cannot be written\n",
+            b"grow: standard output cannot be written\n",
         );
     }
 }

@@ -1,8 +1,10 @@
 -- Laws of `Asked`: the answer by the tests, what it tells, and that this is told in one way.
 -- Assumes nothing.
-use Rattle.std.specs.Prelude.{◌≡◌, refl, Bool, true, false, not, ◌||◌, List, [], ◌∷◌, ℕ, ◌≤◌, Ok, Err}
-use Rattle.std.proofs.Common.{sym, ap}
+use Rattle.std.specs.Prelude.{◌≡◌, refl, Bool, true, false, not, ◌||◌, List, [], ◌∷◌, ℕ, ◌≤◌, ◌<◌, leb, ltb, Ok, Err}
+use Rattle.std.proofs.Common.{sym, ap, arith, le-leb, le-ltb, lt-ltb}
 use Rattle.std.proofs.Math.Option.{none, some}
+use Rattle.std.proofs.Math.Decide.{dec_le}
+use Rattle.std.proofs.lemmas.Bool.{lt-leb}
 use Rattle.placing.specs.declared.units.Growth.{Growth}
 use Rattle.placing.specs.declared.units.Growth.TheVariants.{Never}
 use Rattle.placing.specs.declared.units.Place.{Place}
@@ -32,6 +34,14 @@ use Rattle.growth.specs.Asked.{
   told,
   told_3,
 }
+
+-- A number is above a bound where it is not up to it.
+pub above-not : (most n : ℕ) → ltb most n ≡ not (leb n most)
+above-not most n = go (dec_le n most)
+  where
+    go : Dec (n ≤ most) → ltb most n ≡ not (leb n most)
+    go (yes within) = rw (le-leb n most within, le-ltb most n within)
+    go (no above) = let more : most < n = omega arith in rw (lt-leb n most more, lt-ltb most n more)
 
 -- The tests decide whether there is a label to be asked about.
 pub label-decides : (s : Place) (c : ℕ) → Decides (not (no_label s c)) (HasLabel s c)

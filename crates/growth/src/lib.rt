@@ -16,7 +16,7 @@ use plan::refusal::Refusal;
 fn outside_range(s: Place) -> bool
     ensures { result ≡ outside_range s }
 {
-    s.x.0 > Limits::COORDINATE || s.y.0 > Limits::COORDINATE
+    !s.is_on_plan()
 }
 
 // There is no label at corner `c` of `s` to be asked about: the place is outside the range, or the corner is not 1 to 4.

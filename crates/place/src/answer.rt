@@ -9,7 +9,6 @@ ghost use Rattle.place.specs.Reply.{output_by, Replied};
 
 use crate::asked::How;
 use crate::explain::tell_refused;
-use desk::tell;
 use plan::limits::TextLimits;
 use plan::output::{output, output_at};
 use std::io::{Read, Write};
@@ -38,7 +37,8 @@ impl fmt::Display for Fault {
     }
 }
 
-// One read into what is left of the room: how many bytes it brought, and none where the input has ended.
+// One read into what is left of the room: how many bytes it brought, and none where the input has ended. A function
+// of its own, which the edits reads_over_each_other and failed_read_as_end change.
 fn read_once<R: Read>(input: &mut R, text: &mut [u8], at: usize) -> io::Result<usize>
     requires { at < length text.old }
     ensures behind { ReadBehind at text.old (after_read at result) text.new }
@@ -54,6 +54,7 @@ fn read_input<R: Read>(input: &mut R, text: &mut [u8]) -> io::Result<usize>
     ensures end { IfOk result (λ n. n < length text.new → IsAtEnd (R.remaining input.new)) }
 {
     let mut at = 0;
+    // By offset: a step is what one read brings, and `read_to_end` takes a Vec, where memory can run out.
     while at < text.len() {
         let n = read_once(input, text, at)?;
         if n == 0 {
@@ -108,7 +109,7 @@ fn answer_list<R: Read, W: Write, E: Write>(
     let answer = reply(input, &mut text, how, &mut buffer).map_err(|_| Fault::Unread)?;
     let output = &buffer[..answer.written];
     out.write_all(output).map_err(|_| Fault::Unwritten)?;
-    // A refusal starts with the word refused, a sheet with the word side.
+    // A refusal starts with the word refused, a sheet with the word side. By the byte, since `output` hands back a length alone.
     if output.starts_with(b"r") {
         tell_refused(err, &text[..answer.read], how);
     }
@@ -118,6 +119,6 @@ fn answer_list<R: Read, W: Write, E: Write>(
 // Answers the list on standard input, by the way and at the side asked for.
 pub(crate) fn answer_input(rt: HostRuntime, how: How) {
     if let Err(fault) = answer_list(&mut rt.stdin(), &mut rt.stdout(), &mut rt.stderr(), how) {
-        tell(&mut rt.stderr(), format_args!("place: {fault}\n"));
+        let _ = writeln!(&mut rt.stderr(), "place: {fault}");
     }
 }

@@ -30,16 +30,16 @@ pub(crate) fn tell_refused<W: Write>(err: &mut W, text: &[u8], how: How)
     if how.at.is_some_and(|side| !is_side(side)) {
         tell(
             err,
-            "place: a side outside the range: it is a number from 1 to 20000, with no leading zero, or the word free\n",
+            b"place: a side outside the range: it is a number from 1 to 20000, with no leading zero, or the word free\n",
         );
     } else if let Some(Explanation { line, why, hint }) = explain(text) {
-        tell(err, format_args!("place: line {line}: {}\n", rule(why)));
+        let _ = writeln!(err, "place: line {line}: {}", rule(why));
         if let Some(hint) = hint {
-            tell(err, format_args!("place: hint: {hint}\n"));
+            let _ = writeln!(err, "place: hint: {hint}");
         }
     } else if text.is_empty() {
-        tell(err, "place: placing a plan of no sites\n");
+        tell(err, b"place: placing a plan of no sites\n");
     } else {
-        tell(err, "place: no good choice exists at the given side\n");
+        tell(err, b"place: no good choice exists at the given side\n");
     }
 }

@@ -1,23 +1,15 @@
 // Whether a list may be placed: some sites and not too many, coordinates in range, places distinct.
 ghost use Rattle.std.specs.Prelude.{◌<◌, length, IsTrue, EachIndex};
 ghost use Rattle.placed_lists.specs.Ready.{Fresh, Ready};
-ghost use Rattle.placing.specs.rules.Units.{OnPlan};
 
 use placing::units::{Limits, Place};
-
-// A place has both coordinates in range.
-fn on_plan(s: Place) -> bool
-    ensures { IsTrue result → OnPlan s }
-{
-    s.x.0 <= Limits::COORDINATE && s.y.0 <= Limits::COORDINATE
-}
 
 // Site `i` is in range, and no site before it is at its place.
 fn fresh(sites: &[Place], i: usize) -> bool
     requires { i < length sites.now }
     ensures { IsTrue result → Fresh sites.now i }
 {
-    on_plan(sites[i]) && !sites[..i].contains(&sites[i])
+    sites[i].is_on_plan() && !sites[..i].contains(&sites[i])
 }
 
 // Each site is in range, at a place where none before it is.

@@ -1,9 +1,10 @@
 // Coordinates in units, sides in half units, and the one conversion between them.
 ghost use Rattle.std.specs.Prelude.{◌≡◌, ◌*◌, ◌≤◌, ◌<◌, ◌/◌, max};
-ghost use Rattle.placing.specs.rules.Units.{in_half_units, greatest_coordinate};
+ghost use Rattle.placing.specs.rules.Units.{in_half_units, greatest_coordinate, OnPlan};
 ghost use Rattle.placing.specs.rules.Answer.{judged_at};
 ghost use Rattle.placing.specs.code.Sites.{Judged};
 ghost use Rattle.placing.specs.deciding.Decides.{Decides};
+ghost use Rattle.placing.specs.deciding.Tests.{on_plan_test};
 ghost use Rattle.placing.specs.rules.Growth.{Exceeds};
 
 // A coordinate, or a distance between two, in units.
@@ -68,6 +69,26 @@ impl Limits {
     pub const GREATEST_SIDE: u32 = 20_000;
     // The side at which free is judged.
     pub const FREE_SIDE: u32 = Limits::GREATEST_SIDE + 1;
+}
+
+impl Place {
+    // The place (x, y).
+    pub fn at(x: u32, y: u32) -> Place
+        ensures { result ≡ record { x = record { 0 = x }; y = record { 0 = y } } }
+    {
+        Place {
+            x: Units(x),
+            y: Units(y),
+        }
+    }
+
+    // Both coordinates are in range.
+    pub fn is_on_plan(self) -> bool
+        ensures test { result ≡ on_plan_test self }
+        ensures decides { Decides result (OnPlan self) }
+    {
+        self.x.0 <= Limits::COORDINATE && self.y.0 <= Limits::COORDINATE
+    }
 }
 
 impl Units {

@@ -107,6 +107,16 @@ data Ready (asked : Asked) (way : Way) (answer-of : List Site → Answer) : Resu
   ready : {sites : List Site} → IsChosen way (places_of sites) (answer-of sites) → asked.IsSheet (sheet_with sites (answer-of sites))
       → asked.shortest ≤ length (sheet_with sites (answer-of sites)) → Ready asked way answer-of (accepted sites)
 
+-- What the contract of a call says of a number and of the buffer afterwards.
+abbrev Meets : Asked → Called → (buffer : List ℕ) (number : ℕ) (after : List ℕ) → Type 0
+Meets asked called buffer number after = (number ≡ called.number) × ((after ≡ called.buffer) × Told asked buffer number after)
+
+abbrev pub MeetsFound : (list buffer : List ℕ) (number : ℕ) (after : List ℕ) → GivenWay → Type 0
+MeetsFound list buffer number after way = Meets (at_found way list) (called way list buffer) buffer number after
+
+abbrev pub MeetsGiven : Side → (list buffer : List ℕ) (number : ℕ) (after : List ℕ) → GivenWay → Type 0
+MeetsGiven side list buffer number after way = Meets (at_given way side list) (called_at way side list buffer) buffer number after
+
 -- Refusals have numbers up to 12.
 module _ (asked : Asked) (small : 12 < asked.shortest) (buffer : List ℕ) where
   abbrev TellsOf : Called → Type 0
@@ -205,6 +215,17 @@ call-meets-at way side list buffer =
 -- and without a way.
 pub no-way-told : (shortest : ℕ) → 12 < shortest → (buffer : List ℕ) → Told (by_no_way shortest) buffer 3 buffer
 no-way-told shortest small buffer = refusal-told (by_no_way shortest) small buffer BadNumber (is_refused refl)
+
+no-way-meets : {number : ℕ} (shortest : ℕ) → 12 < shortest → (buffer : List ℕ) → number ≡ 3
+    → Meets (by_no_way shortest) (refusal BadNumber buffer) buffer number buffer
+no-way-meets shortest small buffer is =
+    (is, (refl, rw is (no-way-told shortest small buffer)))
+
+pub no-way-found : {number : ℕ} (list buffer : List ℕ) → number ≡ 3 → MeetsFound list buffer number buffer None
+no-way-found list = no-way-meets shortest_sheet (omega arith)
+
+pub no-way-given : {number : ℕ} (side : Side) (list buffer : List ℕ) → number ≡ 3 → MeetsGiven side list buffer number buffer None
+no-way-given side list = no-way-meets shortest_sheet_at (omega arith)
 
 -- So the number of what comes of writing tells it, with the buffer.
 written-parts : (written : Written) (after : List ℕ)

@@ -5,7 +5,7 @@ ghost use Rattle.growth.specs.Asked.{growth_asked_number, growth_asked};
 ghost use Rattle.sheet_call.specs.Growing.{number_for, growth_left, GrowthCalled};
 
 use growth::how_far;
-use placing::units::{Growth, Place, Units};
+use placing::units::{Growth, Place};
 
 // The number that stands for never in C.
 const NEVER: u32 = 4_294_967_295;
@@ -17,15 +17,6 @@ fn number_for(growth: Growth) -> u32
     match growth {
         Growth::UpTo(most) => most.0,
         Growth::Never => NEVER,
-    }
-}
-
-fn place_at(x: u32, y: u32) -> Place
-    ensures { result ≡ place_at x y }
-{
-    Place {
-        x: Units(x),
-        y: Units(y),
     }
 }
 
@@ -44,7 +35,7 @@ pub fn lemoncanyon_growth(
         ≡ growth_left (growth_asked (place_at x1 y1) corner1 (place_at x2 y2) corner2) growth.old }
     ensures told { GrowthCalled (place_at x1 y1) corner1 (place_at x2 y2) corner2 growth.old result growth.new }
 {
-    match how_far(place_at(x1, y1), corner1, place_at(x2, y2), corner2) {
+    match how_far(Place::at(x1, y1), corner1, Place::at(x2, y2), corner2) {
         Ok(told) => {
             *growth = number_for(told);
             0

@@ -53,7 +53,7 @@ fn write_sheet(list: &[u8], way: u32, buffer: &mut [u8]) -> Result<usize, Refusa
     plan.write(buffer)
 }
 
-// The same at the side that a number stands for.
+// The same at the side that a number stands for. Apart, since they share four lines, and one over an Option of the side is no plainer.
 fn write_sheet_at(list: &[u8], way: u32, side: u32, buffer: &mut [u8]) -> Result<usize, Refusal>
     ensures { as_called result buffer.new ≡ called_at (way_of way) (side_of side) list.now buffer.old }
 {

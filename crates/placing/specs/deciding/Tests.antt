@@ -16,7 +16,7 @@ use Rattle.placing.specs.declared.way.Way.{Way}
 use Rattle.placing.specs.declared.way.Way.TheVariants.{Usual, Above}
 use Rattle.placing.specs.declared.corner.Direction.{Direction}
 use Rattle.placing.specs.declared.corner.Direction.TheVariants.{Up, Down}
-use Rattle.placing.specs.rules.Units.{Axis, X, Y, along, in_half_units, dist, site_at, Distinct}
+use Rattle.placing.specs.rules.Units.{Axis, X, Y, along, greatest_coordinate, OnPlan, in_half_units, dist, site_at, Distinct}
 use Rattle.placing.specs.rules.Corner.{Corner, toward, opposite}
 use Rattle.placing.specs.rules.Label.{Onward, upward, downward, Overlap, same_direction, facing, Meet}
 use Rattle.placing.specs.rules.Crowd.{Ahead, DoubledCovers, Crowded}
@@ -121,6 +121,15 @@ pub axes-decide : {P : Axis → Type 0} (test : Axis → Bool) → ((axis : Axis
 axes-decide {P} test d = decides-same (λ r. both P r.0 r.1) (λ all. (all X, all Y)) (both-decide (d X) (d Y))
 
 -- ---- the rules, in document 01's order; whether two labels meet is tested by how far they grow (document 02, L3)
+
+-- A place is on the plan by the tests of its two coordinates.
+abbrev pub on_plan_test : Place → Bool
+on_plan_test s = leb s.x.0 greatest_coordinate && leb s.y.0 greatest_coordinate
+
+pub on_plan-decides : (s : Place) → Decides (on_plan_test s) (OnPlan s)
+on_plan-decides s =
+    decides-same (λ in_range. record { on_x = in_range.0; on_y = in_range.1 }) (λ on. (on.on_x, on.on_y))
+    (both-decide (le-decides s.x.0 greatest_coordinate) (le-decides s.y.0 greatest_coordinate))
 
 -- Places with the same coordinates are the same place.
 pub place-equal : {s t : Place} → ((axis : Axis) → along axis s ≡ along axis t) → s ≡ t

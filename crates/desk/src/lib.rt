@@ -48,7 +48,8 @@ pub fn word_count(rt: &impl Env) -> usize {
         .unwrap_or(usize::MAX - 1)
 }
 
-// Says some words on standard error. Where they cannot be written there is nowhere left to say so.
+// Says some words on standard error. Where they cannot be written there is nowhere left to say so, nor for a line that a program puts
+// together and writes itself.
 pub fn tell<W: Write>(err: &mut W, words: &[u8]) {
     let _ = err.write_all(words);
 }

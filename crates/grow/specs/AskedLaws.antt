@@ -1,20 +1,37 @@
 -- Laws of `Asked`: words that write six numbers ask for these, whatever they are, and a word that writes none is refused.
 -- Assumes nothing.
-use Rattle.std.specs.Prelude.{◌≡◌, List, ◌⊎◌, ℕ, ◌≤◌, ◌<◌, Err}
+use Rattle.std.specs.Prelude.{◌≡◌, refl, Bool, true, false, List, ◌⊎◌, ℕ, ◌≤◌, ◌<◌, Some, None, Err}
+use Rattle.std.specs.Prelude as rattle
 use Rattle.std.proofs.Common.{ap, ◌∙◌, ⊎_elim, arith, le-leb}
-use Rattle.std.proofs.Math.Option.{none, some}
+use Rattle.std.proofs.Math.Option.{Option, none, some}
 use Rattle.std.proofs.Math.Decide.{dec_le}
 use Rattle.std.proofs.lemmas.Bool.{lt-leb}
 use Rattle.desk.specs.Words.{bytes_in}
+use Rattle.placing.specs.declared.units.Units.{Units}
 use Rattle.placing.specs.rules.Units.{greatest_coordinate}
 use Rattle.plan.specs.declared.refusal.Refusal.TheVariants.{BadNumber}
-use Rattle.plan.specs.rules.Text.{decimal, number_in}
-use Rattle.plan.specs.rules.List.{place_at}
+use Rattle.plan.specs.rules.Text.{decimal, number_in, or_zero}
+use Rattle.plan.specs.rules.List.{place_at, is_coordinate}
+use Rattle.plan.specs.calls.Given.{coordinate_read}
 use Rattle.plan.specs.theorems.Text.{number-decimal}
 use Rattle.growth.specs.Asked.{AskedGrowth, growth_asked, HasLabel, GrowthTold, told, told_3}
 use Rattle.growth.specs.AskedLaws.{asked-tells, told-one}
 use Rattle.grow.specs.declared.asked.LabelWords.{LabelWords}
 use Rattle.grow.specs.Asked.{outside, number_or, number_given, place_given, growth_by_words}
+
+-- The number of a coordinate that is read, or the one that stands for none.
+abbrev pub number_from : rattle.Option Units → ℕ
+number_from (Some units) = units.0
+number_from None = outside
+
+pub number-from : (number : Option ℕ) → number_from (coordinate_read number) ≡ number_or number
+number-from number = go (is_coordinate number)
+  where
+    go : (inside : Bool)
+        → number_from (elim inside [ true ↦ Some (record { 0 = or_zero number }) | false ↦ None ])
+        ≡ elim inside [ true ↦ or_zero number | false ↦ outside ]
+    go true = refl
+    go false = refl
 
 -- A number in range is given as it is; and what is given in range is the number.
 inside : {n : ℕ} → n ≤ greatest_coordinate → number_or (some n) ≡ n

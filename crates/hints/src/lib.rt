@@ -69,7 +69,7 @@ fn line_length(text: &[u8]) -> usize
     text.iter().position(|b| *b == b'\n').unwrap_or(text.len())
 }
 
-// Whether a byte is from `low` to `high`.
+// Whether a byte is from `low` to `high`. A function, as `ends_in` and `starts_with` are, since it is a test of the rule, with its law.
 fn is_within(b: u8, low: u8, high: u8) -> bool
     ensures { result ≡ within low high b }
 {
@@ -127,14 +127,14 @@ fn is_heading(line: usize, bytes: &[u8]) -> bool
     line == 1 && !has_byte(bytes, b'0', b'9')
 }
 
-// The hint of the first row whose test holds.
+// The hint of the first row whose test holds: a row is a test and its hint, as in the rule's table (`hint_tests`).
 fn first_hint(rows: &[(bool, Hint)]) -> Option<Hint>
     ensures { result ≡ first_hint (map row_of rows.now) }
 {
     rows.iter().find(|row| row.0).map(|row| row.1)
 }
 
-// The hint for a line, given its bytes without the line feed and whether it has one.
+// The hint for a line, given its bytes without the line feed and whether it has one. The table is `hint_tests` (edit point_before_lower_case).
 fn hint_of(line: usize, bytes: &[u8], ended: bool) -> Option<Hint>
     ensures { result ≡ hint_of line (line_of bytes.now ended) }
 {

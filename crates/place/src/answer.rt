@@ -37,8 +37,8 @@ impl fmt::Display for Fault {
     }
 }
 
-// One read into what is left of the room: how many bytes it brought, and none where the input has ended. A function
-// of its own, which the edits reads_over_each_other and failed_read_as_end change.
+// One read into what is left of the room: how many bytes it brought, and none where the input has ended. A function of its own,
+// which the edits reads_over_each_other and failed_read_as_end change.
 fn read_once<R: Read>(input: &mut R, text: &mut [u8], at: usize) -> io::Result<usize>
     requires { at < length text.old }
     ensures behind { ReadBehind at text.old (after_read at result) text.new }

@@ -42,7 +42,7 @@ impl Labels<'_> {
         if state.decided[i] != 0 {
             return true;
         }
-        // A loop and no `any`, and so in `walk`: of the state that a closure writes a proof knows nothing afterwards.
+        // A loop and no `any`: of the state that a closure writes a proof knows nothing afterwards.
         for e in 0..Limits::CORNERS {
             if self.try_open(state, marks, i, e) {
                 return true;
@@ -56,6 +56,7 @@ impl Labels<'_> {
         requires { MayWalk self.now state.old marks.old 0 }
         ensures { WalkedTo (problem_of self.now) (length self.now.sites.now) result state.new }
     {
+        // By number, since what is decided stands in the state; and a loop and no `all`, for the reason in `choose_corner`.
         for i in 0..self.sites.len() {
             if !self.choose_corner(state, marks, i) {
                 return false;

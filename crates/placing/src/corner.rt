@@ -1,4 +1,5 @@
-// The corners, numbered as quadrants, and each one's two directions.
+// The corners, numbered as quadrants, and each one's two directions. A corner is its number, 1 to 4, since the rules of choices speak of
+// numbers (`Good`), and order choices by them (`First`).
 ghost use Rattle.std.specs.Prelude.{◌≡◌};
 ghost use Rattle.placing.specs.rules.Corner.{up_where, directions_of, Corner};
 

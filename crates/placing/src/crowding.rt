@@ -18,7 +18,7 @@ use crate::way::Way;
 
 // The reach of each corner of each site, in half units, in the places of `Limits::ALL_CORNERS`; and the top: no side above it, up to the
 // one that was asked, leaves every site a corner. For sides up to the top, a corner may be chosen where the doubled side is within its
-// reach.
+// reach. In an array and on no heap, so that no call can fail; the reaches are bare numbers, of which `ReachesAre` speaks.
 #[derive(Clone, Copy)]
 pub(crate) struct Crowding {
     pub reaches: [u32; Limits::ALL_CORNERS],
@@ -48,7 +48,7 @@ fn lower_site(
     requires { (length reaches.old ≡ 4 * most_sites) × (i < most_sites) × (away.0 ≡ distance_between s t) }
     ensures { SiteLowered i s t reaches.old reaches.new }
 {
-    // By index: of what `iter_mut` lends a proof knows nothing afterwards.
+    // By index: of what an adapter of `iter_mut` lends a proof knows nothing afterwards.
     for e in 0..Limits::CORNERS {
         let at = 4 * i + e;
         let reach = lowered(HalfUnits(reaches[at]), away, s, (e + 1) as u8, t);
@@ -86,9 +86,8 @@ fn lower_row(sites: &[Place], reaches: &mut [u32; Limits::ALL_CORNERS], top: Hal
     ensures { ReachesOver sites.now top.0 (RowsBelow (i + 1)) reaches.new }
 {
     let s = sites[i];
-    // By number, since the reaches of both sites are lowered.
-    for j in i + 1..sites.len() {
-        lower_pair(reaches, top, i, s, j, &sites[j]);
+    for (j, t) in sites.iter().enumerate().skip(i + 1) {
+        lower_pair(reaches, top, i, s, j, t);
     }
 }
 
@@ -136,6 +135,7 @@ impl Labels<'_> {
         let furthest = self.side.doubled();
         let mut reaches = [furthest.0; Limits::ALL_CORNERS];
         let mut top = self.side;
+        // By number: a row lowers the reaches of the sites after its own too.
         for i in 0..self.sites.len() {
             lower_row(self.sites, &mut reaches, top, i);
             top = top_left(&reaches, i, top);
@@ -147,6 +147,7 @@ impl Labels<'_> {
     pub(crate) fn crowding(&self) -> Crowding
         ensures { CrowdingIs self.now.way self.now.side.0 self.now.sites.now result }
     {
+        // Two ways of an enum: as closures they would be no plainer.
         match self.way {
             Way::Usual => self.crowding_of(),
             Way::Above => upper_corners(self.sites.len(), self.side),

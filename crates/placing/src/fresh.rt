@@ -8,7 +8,8 @@ use crate::crowding::Crowding;
 use crate::units::{HalfUnits, Limits};
 
 // Which corners are open and which is decided, for every site. Four bytes a site say which corners are open, 1 for open, and one byte which
-// is decided, or 0: as numbers, since the laws of specs/search speak of them, and choosing hands the decisions back.
+// is decided, or 0: as numbers, since theorems of specs/search speak of them so (`extends`, `walk-solution`), and choosing hands the
+// decisions back.
 #[derive(Clone, Copy)]
 pub(crate) struct State {
     pub opens: [u8; Limits::ALL_CORNERS],
@@ -20,7 +21,7 @@ fn is_open(reach: HalfUnits, side: HalfUnits) -> u8
     requires { Judged side }
     ensures { OpenByte reach.0 side.0 result }
 {
-    if side.doubled() <= reach { 1 } else { 0 }
+    u8::from(side.doubled() <= reach)
 }
 
 // The state of `n` sites at a side, before anything is decided.
@@ -29,6 +30,7 @@ pub(crate) fn fresh_state(crowding: &Crowding, n: usize, side: HalfUnits) -> Sta
     ensures { FreshState crowding.now n side result }
 {
     let mut opens = [0u8; Limits::ALL_CORNERS];
+    // Written by index: of what an adapter of `iter_mut` lends a proof knows nothing afterwards.
     for (at, reach) in crowding.reaches[..Limits::CORNERS * n].iter().enumerate() {
         opens[at] = is_open(HalfUnits(*reach), side);
     }

@@ -98,8 +98,7 @@ impl Label {
     }
 }
 
-// The pair test for two places and two corners. Corners are their numbers, 1 to 4, of which the rules of choices, their order and sheets
-// speak.
+// The pair test for two places and two corners.
 pub fn growth_of(s: Place, c: u8, t: Place, e: u8) -> Growth
     requires { OnPlan s × Corner c × OnPlan t × Corner e }
     ensures growth { result ≡ growth_of s c t e }

@@ -27,7 +27,8 @@ fn middle(low: HalfUnits, high: HalfUnits) -> HalfUnits
     HalfUnits(low.0 + (high.0 - low.0) / 2)
 }
 
-// The side of an answer, by the greatest side that has a good choice: free is judged at 20,001.
+// The side of an answer, by the greatest side that has a good choice: free is judged at 20,001. No From: of an answer alone does that
+// number stand for free.
 fn side_of(greatest: HalfUnits) -> Side
     ensures { SideIs greatest result }
 {

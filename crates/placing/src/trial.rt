@@ -1,6 +1,7 @@
 // A trial decides a corner of one site and carries on: a decided site closes the corners of others that its label meets, and
-// a site left with one corner is decided too. A byte of the lent table marks a site whose decision has been carried out. A trial keeps a
-// copy of the state as it came, to put back where it fails.
+// a site left with one corner is decided too. A byte of the lent table marks a site whose decision has been carried out: the marks are
+// bytes, since the table is lent as bytes (find_side, clause table). A trial keeps a copy of the state as it came, to put back where it
+// fails.
 ghost use Rattle.std.specs.Prelude.{◌≡◌, ℕ, ◌≤◌, ◌<◌, IsTrue, ◌↔◌, length, set};
 ghost use Rattle.placing.specs.rules.Units.{most_sites, site_at, OnPlan};
 ghost use Rattle.placing.specs.rules.Corner.{Corner, directions_of};
@@ -43,7 +44,7 @@ fn one_more(left: Left, c: u8) -> Left
 fn mark_of(decided: u8) -> u8
     ensures { result ≡ mark_of decided }
 {
-    if decided == 0 { 0 } else { 1 }
+    u8::from(decided != 0)
 }
 
 impl State {
@@ -108,7 +109,8 @@ impl State {
         (from..marks.len()).find(|k| self.waits(marks, *k))
     }
 
-    // Writes the marks: that of each decided site, and of no other. By index: of what `iter_mut` lends a proof knows nothing afterwards.
+    // Writes the marks: that of each decided site, and of no other. By index: of what an adapter of `iter_mut` lends a
+    // proof knows nothing afterwards.
     fn mark(&self, marks: &mut [u8])
         requires { length marks.old ≤ most_sites }
         ensures { Marked self.now (length marks.old) marks.new }
@@ -189,6 +191,7 @@ impl Labels<'_> {
         ensures { CarriedOut (problem_of self.now) Every state.old k result state.new }
     {
         let c = state.decided[k];
+        // Two ways of an enum: as closures they would be no plainer.
         match self.way {
             Way::Usual => self.carry_corner(state, k, c, from),
             Way::Above => {

@@ -1,4 +1,5 @@
-// Coordinates in units, sides in half units, and the one conversion between them.
+// Coordinates in units, sides in half units, and the one conversion between them. These types hold any numbers, since `how_far` and
+// `is_side` answer for any: `OnPlan` and `Judged` are asked where they are needed.
 ghost use Rattle.std.specs.Prelude.{◌≡◌, ◌*◌, ◌≤◌, ◌<◌, ◌/◌, max};
 ghost use Rattle.placing.specs.rules.Units.{in_half_units, greatest_coordinate, OnPlan};
 ghost use Rattle.placing.specs.rules.Answer.{judged_at};

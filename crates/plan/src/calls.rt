@@ -36,7 +36,7 @@ fn ready(n: usize, bytes: usize) -> Result<(), Refusal>
     Ok(())
 }
 
-// Whether a side can be given: a number from 1 to 20,000, or free.
+// Whether a side can be given: a number from 1 to 20,000, or free. No method: that is a rule of these calls, and a Side holds any number.
 pub fn is_side(side: Side) -> bool
     ensures { result ≡ is_side side }
 {

@@ -4,8 +4,8 @@ ghost use Rattle.plan.specs.rules.Text.{most_name_bytes, is_name_byte, is_name};
 ghost use Rattle.plan.specs.calls.Plan.{name_held};
 ghost use Rattle.plan.specs.code.NameRead.{name_read, no_name};
 
-// The bytes of a name from the front, zeros past them. An array, since a plan's calls cannot fail for memory. No ghost field says so of the
-// zeros: the specs' `name_of` makes such a record of any bytes.
+// The bytes of a name from the front, zeros past them. An array, since a plan's calls cannot fail for memory, and no ArrayVec, since the specs
+// (`Padded`) speak of these zeros. No ghost field says so of them: the specs' `name_of` makes such a record of any bytes.
 #[derive(Clone, Copy, PartialEq, Eq)]
 pub struct Name {
     pub bytes: [u8; Name::LONGEST],

@@ -22,7 +22,7 @@ fn refusal_page(why: Refusal) -> Page
 {
     let mut page = Page::new();
     page.put(b"refused\t");
-    page.number(u8::from(why) as u32);
+    page.number(u32::from(u8::from(why)));
     page.byte(b'\n');
     page
 }
@@ -56,7 +56,7 @@ fn put_planned(
 
 impl Plan {
     // Reads a list and places it by a way at the side found; where the list is refused or has no sites, the plan is empty. It lends both
-    // calls a work table of its own.
+    // calls a work table of its own. This and `place_list_at` are two: they refuse in another order, and each has its own clause `told`.
     pub fn place_list(&mut self, text: &[u8], way: Way) -> Result<(), Refusal>
         ensures answer { record { outcome = result; plan = self.new } ≡ list_placed way text.now }
         ensures told { ListTold way text.now (record { outcome = result; plan = self.new }) }
@@ -97,7 +97,7 @@ pub fn output(text: &[u8], way: Way, buffer: &mut [u8; TextLimits::SHEET]) -> us
     put_planned(placed, &plan, buffer)
 }
 
-// The output for a list by a way at a given side.
+// The output for a list by a way at a given side. Two functions as `place_list` and `place_list_at` are, with a clause `answered` each.
 pub fn output_at(text: &[u8], way: Way, side: Side, buffer: &mut [u8; TextLimits::SHEET]) -> usize
     ensures length { result ≡ length (output_at way side text.now) }
     ensures buffer { buffer.new ≡ filled_with (output_at way side text.now) buffer.old }

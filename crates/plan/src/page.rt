@@ -12,7 +12,8 @@ pub(crate) struct Page {
     len: usize,
 }
 
-// A page is the text that was put so far.
+// A page is the text that was put so far. No ArrayVec of the kit, since the product has no crate but its own and the libraries of Rust,
+// and a page's value is its text alone.
 impl Model for Page {
     ghost use Rattle.std.specs.Prelude.{List, ℕ, ◌≤◌, take};
     ghost use Rattle.plan.specs.calls.Lengths.{longest_sheet};
@@ -56,7 +57,8 @@ impl Page {
         self.len = end;
     }
 
-    // A number more, in decimal: the digits of its tenth part, then its last digit.
+    // A number more, in decimal: the digits of its tenth part, then its last digit. By hand, since a page cannot fail, and `write!` hands
+    // back a Result (edit number_ends_in_zero).
     pub(crate) fn number(&mut self, n: u32)
         requires { length self.old + length (decimal n) ≤ longest_sheet }
         ensures text { self.new ≡ self.old ++ decimal n }

@@ -42,7 +42,7 @@ fn put_site(page: &mut Page, name: Name, place: Place, corner: u8)
     page.byte(b'\t');
     page.number(place.y.0);
     page.byte(b'\t');
-    page.number(corner as u32);
+    page.number(u32::from(corner));
     page.byte(b'\n');
 }
 
@@ -55,7 +55,7 @@ impl Plan {
         let placement = self.placement.unwrap();
         let mut page = Page::new();
         put_side(&mut page, placement.side);
-        // Three arrays are gone through side by side.
+        // By index: put_site asks of a site's name, place and corner what a plan holds at its index; two zips nest them and are no plainer.
         for i in 0..self.count {
             put_site(
                 &mut page,

@@ -1,6 +1,6 @@
 -- Entering a name and a place as they were read.
 -- Assumes nothing.
-use Rattle.std.specs.Prelude.{◌≡◌, refl, Bool, true, false, ◌&&◌, List, [], ◌∷◌, ◌++◌, ℕ, ◌-◌, ◌≤◌, ◌<◌, leb, length, take, replicate, Option, Some, None, Ok, Err, unwrap_or}
+use Rattle.std.specs.Prelude.{◌≡◌, refl, Bool, true, false, ◌&&◌, List, [], ◌∷◌, ◌++◌, ℕ, ◌-◌, ◌≤◌, ◌<◌, length, take, replicate, Option, Some, None, Ok, Err, unwrap_or}
 use Rattle.std.specs.Prelude as rattle
 use Rattle.std.specs.Option.{is_some}
 use Rattle.std.specs.List.{list_any}

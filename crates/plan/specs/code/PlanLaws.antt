@@ -1,6 +1,6 @@
 -- What a plan that the calls hand back holds, and the plan with one site more.
 -- Assumes nothing.
-use Rattle.std.specs.Prelude.{◌≡◌, refl, true, false, List, [], ◌∷◌, ◌++◌, map, ℕ, suc, ◌+◌, ◌-◌, ◌*◌, ◌≤◌, ◌<◌, length, get_or, take, drop, set, replicate, ok_or, Ok, Err}
+use Rattle.std.specs.Prelude.{◌≡◌, refl, true, false, List, [], ◌∷◌, ◌++◌, map, ℕ, suc, ◌+◌, ◌-◌, ◌*◌, ◌<◌, length, get_or, take, set, replicate, ok_or, Ok, Err}
 use Rattle.std.specs.Prelude as rattle
 use Rattle.std.proofs.Common.{sym, ap, ap₂, ◌∙◌, subst, append_assoc, arith, length-append, take_at, ltb-false}
 use Rattle.std.proofs.lemmas.List.{map-append, length-map, set_at}

@@ -1,9 +1,8 @@
 -- `name_from` meets its contract: the bytes of a name are put over zeros.
 -- Assumes nothing.
-use Rattle.std.proofs.Common.{◌≡◌, Bool, true, List, ℕ, ◌++◌, ◌≤◌, length, sym, ap₂, ◌∙◌, length-take-le}
+use Rattle.std.proofs.Common.{◌≡◌, Bool, true, List, ℕ, ◌≤◌, length, sym, ◌∙◌, length-take-le}
 use Rattle.plan.specs.rules.Text.{is_name, most_name_bytes}
 use Rattle.plan.specs.theorems.Text.{name-short}
-use Rattle.plan.specs.code.NameLaws.{no-name-read, name-read, drop-zeros}
 use Rattle.plan.proofs.name.name_from.Goals as goal
 
 -- A name has at most eight bytes.

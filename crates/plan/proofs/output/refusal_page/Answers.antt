@@ -1,5 +1,5 @@
 -- `refusal_page` meets its contract: the word with its tab, the number and the line feed are the line. Assumes nothing.
-use Rattle.std.proofs.Common.{◌≡◌, ℕ, ◌≤◌, ap, arith, length}
+use Rattle.std.proofs.Common.{◌≡◌, ℕ, ◌≤◌, ap, arith, length, ◌∙◌}
 use Rattle.plan.specs.declared.refusal.Refusal.{Refusal}
 use Rattle.plan.specs.rules.Refusal.{number_of}
 use Rattle.plan.specs.rules.Text.{decimal}
@@ -12,7 +12,7 @@ number_fits : {n : ℕ} (why : Refusal) → n ≡ number_of why → length (deci
 number_fits why same = rw same (number_short why)
 
 pub number-requires : goal.number-requires
-number-requires c = omega (arith, ap length c.new-page.ensures, number_fits c.args.why c.from.ensures)
+number-requires c = omega (arith, ap length c.new-page.ensures, number_fits c.args.why (c.from-2.ensures ∙ c.from.ensures))
 
 pub byte-requires : goal.byte-requires
-byte-requires c = omega (arith, ap length c.new-page.ensures, number_fits c.args.why c.from.ensures)
+byte-requires c = omega (arith, ap length c.new-page.ensures, number_fits c.args.why (c.from-2.ensures ∙ c.from.ensures))

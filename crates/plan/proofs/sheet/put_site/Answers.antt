@@ -41,18 +41,19 @@ byte-requires-3 c =
 pub number-requires-3 : goal.number-requires-3
 number-requires-3 c =
     let parts = short c.args.name c.args.place c.args.corner c.requires.0 c.requires.1 c.requires.2 in
-    omega (arith, ap length c.text.ensures, parts)
+    omega (arith, ap length c.text.ensures, parts, ap (λ (n : ℕ). length (decimal n)) c.from.ensures)
 
 pub byte-requires-4 : goal.byte-requires-4
 byte-requires-4 c =
     let parts = short c.args.name c.args.place c.args.corner c.requires.0 c.requires.1 c.requires.2 in
-    omega (arith, ap length c.text.ensures, parts)
+    omega (arith, ap length c.text.ensures, parts, ap (λ (n : ℕ). length (decimal n)) c.from.ensures)
 
 pub returns : goal.returns
 returns c =
     rw (
       c.byte-4.ensures.text,
       c.number-3.ensures.text,
+      c.from.ensures,
       c.byte-3.ensures.text,
       c.number-2.ensures.text,
       c.byte-2.ensures.text,

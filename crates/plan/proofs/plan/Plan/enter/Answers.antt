@@ -2,7 +2,7 @@
 use Rattle.std.proofs.Math.Option.{some}
 use Rattle.plan.specs.calls.Plan.{sites_in}
 use Rattle.plan.specs.theorems.Calls.{enter-told}
-use Rattle.plan.specs.code.Entering.{PlaceIs, place_read_lem, call-answers, name_fits, entered-as-read}
+use Rattle.plan.specs.code.Entering.{PlaceIs, place_read_lem, call-answers, entered-as-read}
 use Rattle.plan.proofs.plan.Plan.enter.Goals as goal
 
 pub returns : goal.returns

@@ -98,6 +98,7 @@ fn top_left(reaches: &[u32; Limits::ALL_CORNERS], i: usize, top: HalfUnits) -> H
     ensures { TopLeft reaches.now i top.0 result.0 }
 {
     let own = Limits::CORNERS * i;
+    // By a loop: `iter().copied().max()` was tried, and that it bounds each of the four (`TopLeft`) did not close.
     let mut furthest = HalfUnits(0);
     for reach in &reaches[own..own + Limits::CORNERS] {
         furthest = furthest.max(HalfUnits(*reach));

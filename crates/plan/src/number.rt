@@ -33,10 +33,8 @@ fn with_digit(value: u32, b: u8, most: u32) -> Option<u32>
     requires { (value ≤ most) × (most ≤ greatest_side) }
     ensures { result ≡ number_read most (digits_after value (b ∷ [])) }
 {
-    if !b.is_ascii_digit() {
-        return None;
-    }
-    let more = value * 10 + (b - b'0') as u32;
+    let digit = char::from(b).to_digit(10)?;
+    let more = value * 10 + digit;
     (more <= most).then_some(more)
 }
 

@@ -23,7 +23,7 @@ pub struct State {
     lent: ArrayVec<u8, { TextLimits::TABLE }>,
 }
 
-// A side as the cases have it.
+// A side as the cases have it, since placing knows no text.
 #[derive(Clone, Copy)]
 struct Size(Side);
 

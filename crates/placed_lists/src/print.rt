@@ -13,7 +13,7 @@ use std::io;
 // How many corners of a choice are printed at most.
 const SHOWN: usize = 9;
 
-// A side is printed as a number, or as the word free.
+// A side is printed as a number, or as the word free. No Display: that is for placing to give, which knows no text.
 fn print_side(rt: &impl Print, side: Side) -> io::Result<()> {
     match side {
         Side::Number(h) => print!(rt; "{}", h.0),
@@ -59,7 +59,7 @@ pub fn print_placed(rt: &impl Print, sites: &[Place], way: Way) -> io::Result<()
     }
 }
 
-// The same at a given side.
+// The same at a given side. Apart, since one function over an Option of the side has the same two calls behind one test and is no plainer.
 pub fn print_chosen(rt: &impl Print, sites: &[Place], way: Way, h: u32) -> io::Result<()>
     requires { h ≤ 20000 }
 {

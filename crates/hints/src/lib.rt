@@ -135,6 +135,7 @@ fn first_hint(rows: &[(bool, Hint)]) -> Option<Hint>
 }
 
 // The hint for a line, given its bytes without the line feed and whether it has one. The table is `hint_tests` (edit point_before_lower_case).
+// Number, bytes and end are what its tests look at; a struct of them for two calls would be no plainer.
 fn hint_of(line: usize, bytes: &[u8], ended: bool) -> Option<Hint>
     ensures { result ≡ hint_of line (line_of bytes.now ended) }
 {

@@ -1,7 +1,7 @@
 // A trial decides a corner of one site and carries on: a decided site closes the corners of others that its label meets, and
 // a site left with one corner is decided too. A byte of the lent table marks a site whose decision has been carried out: the marks are
 // bytes, since the table is lent as bytes (find_side, clause table). A trial keeps a copy of the state as it came, to put back where it
-// fails.
+// fails; of the state alone, so that state and marks are handed on side by side.
 ghost use Rattle.std.specs.Prelude.{◌≡◌, ℕ, ◌≤◌, ◌<◌, IsTrue, ◌↔◌, length, set};
 ghost use Rattle.placing.specs.rules.Units.{most_sites, site_at, OnPlan};
 ghost use Rattle.placing.specs.rules.Corner.{Corner, directions_of};

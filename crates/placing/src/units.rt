@@ -103,7 +103,7 @@ impl Units {
 }
 
 impl HalfUnits {
-    // Two labels meet at the sides that exceed their growth.
+    // Two labels meet at the sides that exceed their growth. No operator: a side and a growth are two types.
     pub(crate) fn exceeds(self, growth: Growth) -> bool
         ensures { Decides result (Exceeds self.0 1 growth) }
     {

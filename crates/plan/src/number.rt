@@ -28,7 +28,8 @@ pub(crate) fn place_at(x: Option<Units>, y: Option<Units>) -> Option<Place>
     Some(Place { x: x?, y: y? })
 }
 
-// A number with one digit more, where it is a digit and the number stays in range.
+// A number with one digit more, where it is a digit and the number stays in range. That `most` is no more than the greatest side is asked of
+// three private functions; a type for that would be no plainer.
 fn with_digit(value: u32, b: u8, most: u32) -> Option<u32>
     requires { (value ≤ most) × (most ≤ greatest_side) }
     ensures { result ≡ number_read most (digits_after value (b ∷ [])) }

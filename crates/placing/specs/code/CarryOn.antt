@@ -10,7 +10,7 @@ use Rattle.placing.specs.search.Problem.{Problem}
 use Rattle.placing.specs.search.Rows.{row_of}
 use Rattle.placing.specs.search.State.{Every, Underway, Closed, Later, Took}
 use Rattle.placing.specs.search.Trial.{trial-begins, trial-later-start, carried-underway, carried_later, stuck-refused, trial-closed}
-use Rattle.placing.specs.code.Steps.{Done, AllSettled, TakenCorner, CarriedOut, Waits, NoneWaits, IsWaiting, Marked, CarriedOn, Tried}
+use Rattle.placing.specs.code.Steps.{Done, AllSettled, TakenCorner, CarriedOut, Waits, NoneWaits, Marked, CarriedOn, Tried}
 use Rattle.placing.specs.code.Labels.{count_of, problem_of, met_looked}
 use Rattle.placing.specs.code.Asks.{MayCarryOut, MayCarryOn}
 use Rattle.placing.specs.code.Marks.{mark-stays, none-waits-marked}
@@ -62,13 +62,7 @@ module _ {P : Problem} {from : ℕ} {state₀ state : State} {marks : List ℕ}
         refused = λ e. absurd (true≢false e);
       }
 
-  module _ {k : ℕ} (first : IsWaiting state marks P.n k) where
-    listed : k < P.n
-    listed = first.listed
-
-    is_decided : corner_at state.decided k ≢ 0
-    is_decided = first.waiting.is_decided
-
+  module _ {k : ℕ} (listed : k < P.n) (is_decided : corner_at state.decided k ≢ 0) where
     -- What is decided is a candidate.
     carrying-candidate : P.Candidate k (corner_at state.decided k)
     carrying-candidate =
@@ -111,22 +105,22 @@ module _ {P : Problem} {from : ℕ} {state₀ state : State} {marks : List ℕ}
 
 -- A decision may be carried out: open corners are allowed, so that those whose labels meet it are looked at.
 pub may-carry-out : {labels : Labels} {state₀ state : State} {marks : List ℕ} {k from : ℕ}
-    → from ≤ count_of labels → CarryingOn (problem_of labels) from state₀ state marks → IsWaiting state marks (count_of labels) k
-    → MayCarryOut labels state k from
-may-carry-out {labels} inside so_far first =
-    let own = carrying-candidate so_far first in
+    → from ≤ count_of labels → CarryingOn (problem_of labels) from state₀ state marks → k < count_of labels
+    → corner_at state.decided k ≢ 0 → MayCarryOut labels state k from
+may-carry-out {labels} inside so_far listed is_decided =
+    let own = carrying-candidate so_far listed is_decided in
     record {
       carrying = record {
-        listed = first.listed;
+        listed = listed;
         corner = own.corner;
         settled = carrying-settled so_far;
         inside = inside;
         apart_below = λ j below different. record {
-          apart = carrying-apart so_far first j below (lt_of_lt_of_le below inside) different;
+          apart = carrying-apart so_far listed is_decided j below (lt_of_lt_of_le below inside) different;
         };
       };
       met_looked = λ j other different. record {
-        looked = λ e is_open. met_looked labels.way labels.side.0 labels.sites.now first.listed other different own (so_far.underway.candidate j e other is_open);
+        looked = λ e is_open. met_looked labels.way labels.side.0 labels.sites.now listed other different own (so_far.underway.candidate j e other is_open);
       };
     }
 

@@ -1,4 +1,4 @@
--- What finding the side of a list of places asks.
+-- What finding the side of a list of places asks, and choosing at one.
 -- Assumes nothing.
 use Rattle.std.specs.Prelude.{◌≡◌, List, ℕ, ◌*◌, ◌≤◌, length, take}
 use Rattle.std.proofs.Common.{mul-le-mul_right, arith, length-take}
@@ -8,6 +8,7 @@ use Rattle.placing.specs.declared.units.HalfUnits.{HalfUnits}
 use Rattle.placing.specs.declared.units.Place.{Place}
 use Rattle.placing.specs.rules.Units.{free_side, Distinct}
 use Rattle.placing.specs.calls.Placing.{MayPlace}
+use Rattle.placing.specs.code.Asks.{MayChooseAt}
 use Rattle.placing.specs.code.Sites.{Held}
 use Rattle.placing.specs.code.Crowding.{judged_free, CrowdingIs}
 use Rattle.placing.specs.code.Labels.{count_of}
@@ -23,6 +24,10 @@ pub record MayBisect (labels : Labels) (crowding : Crowding) (marks : List ℕ) 
   pub distinct : Distinct labels.sites.now
   pub room : length marks ≡ count_of labels
   pub crowding_is : CrowdingIs labels.way free_side labels.sites.now crowding
+
+-- Finding asks all that choosing does, which is at a judged side by its labels' type.
+pub may-choose : {labels : Labels} {marks : List ℕ} → MayFind labels.sites.now marks → MayChooseAt labels marks
+may-choose may = record { distinct = may.distinct; room = may.room }
 
 -- A list that may be placed is held, at every judged side,
 pub held-place : {sites : List Place} {table : List ℕ} → MayPlace sites table → (side : HalfUnits) → side.0 ≤ free_side → Held sites side

@@ -1,12 +1,12 @@
 -- The tests of a line as the functions make them: byte by byte, and one after another.
 -- Assumes nothing.
-use Rattle.std.specs.Prelude.{map, ◌≡◌, refl, Bool, true, false, ◌&&◌, ◌||◌, List, [], ◌∷◌, ◌++◌, ◌≢◌, ℕ, zero, suc, ◌+◌, ◌-◌, ◌≤◌, eqb, ltb, length, take, drop}
+use Rattle.std.specs.Prelude.{map, Option, Some, cond, ◌≡◌, refl, Bool, true, false, not, ◌&&◌, ◌||◌, List, [], ◌∷◌, ◌++◌, ◌≢◌, ℕ, zero, suc, ◌+◌, ◌-◌, ◌≤◌, eqb, ltb, length, take, drop}
 use Rattle.std.proofs.Common.{sym, ap, ap₂, ◌∙◌, add-one, arith, length-append}
 use Rattle.std.proofs.Math.Seq.{take-length, take-append_seam}
 use Rattle.std.proofs.lemmas.Bool.{eqb-true, eqb-false}
 use Rattle.std.proofs.Math.Bool.{and-true}
 use borrow.Author.Tests.{eq-eqb, ne_eqb, lt-ltb, le-ltb}
-use Rattle.plan.specs.rules.Text.{line_feed}
+use Rattle.plan.specs.rules.Text.{line_feed, tab}
 use Rattle.plan.specs.rules.List.{TextLine, FirstLine, with_feed, without_feed}
 use Rattle.plan.specs.deciding.Reading.{with_byte, cut_line}
 use Rattle.plan.specs.theorems.Reading.{cut-first-line}
@@ -14,7 +14,10 @@ use Rattle.std.specs.List.{find, list_any, starts_with as prefix_by, ends_with a
 use Rattle.std.specs.Option.{option_map}
 use lib.Pointwise.{pointwise}
 use Rattle.hints.specs.declared.Hint.{Hint}
-use Rattle.hints.specs.Hint.{within, has, ends_in, starts_with, HintTest, ◌gives◌, first_hint, hint_of, line_of}
+use Rattle.hints.specs.declared.Hint.TheVariants.{ByteOrderMark, Empty, CarriageReturn, NoLineFeed, LongLine}
+use Rattle.hints.specs.declared.Hint.TheVariants.{Heading, EndTab, Separator, LowerCase, Point}
+use Rattle.hints.specs.Hint.{within, has, has_separator, ends_in, starts_with, starts_with_mark, lacks_feed, is_heading}
+use Rattle.hints.specs.Hint.{HintTest, ◌gives◌, first_hint, hint_of, line_of}
 
 -- ---- the first line of a text
 
@@ -123,3 +126,39 @@ pub found-first : (rows : List (Bool × Hint)) → option_map (λ row. row.1) (f
 found-first [] = refl
 found-first ((true, hint) ∷ rows) = refl
 found-first ((false, hint) ∷ rows) = found-first rows
+
+-- The test of a cause in the rule's table,
+abbrev pub shows : ℕ → TextLine → Hint → Bool
+shows number line ByteOrderMark = starts_with_mark line.bytes
+shows number line Empty = eqb (length line.bytes) 0
+shows number line CarriageReturn = has 13 13 line.bytes
+shows number line NoLineFeed = lacks_feed line.bytes line.ended
+shows number line LongLine = not line.ended
+shows number line Heading = is_heading number line.bytes
+shows number line EndTab = ends_in tab line.bytes
+shows number line Separator = has_separator line.bytes
+shows number line LowerCase = has 97 122 line.bytes
+shows number line Point = has 46 46 line.bytes
+
+-- which has the causes in this order.
+abbrev pub in_order : List Hint
+in_order = ByteOrderMark ∷ Empty ∷ CarriageReturn ∷ NoLineFeed ∷ LongLine ∷ Heading ∷ EndTab ∷ Separator ∷ LowerCase ∷ Point ∷ []
+
+-- A row of a cause: whether it shows, and its hint.
+abbrev row_for : ℕ → TextLine → Hint → Bool × Hint
+row_for number line hint = (shows number line hint, hint)
+
+-- The first cause that shows is that of the first row that is found.
+first-shown : (number : ℕ) (line : TextLine) (hints : List Hint)
+    → find (shows number line) hints ≡ option_map (λ row. row.1) (find (λ row. row.0) (map (row_for number line) hints))
+first-shown number line [] = refl
+first-shown number line (hint ∷ hints) = by-test (shows number line hint) (find (λ row. row.0) (map (row_for number line) hints)) (first-shown number line hints)
+  where
+    by-test : (is : Bool) {rest : Option Hint} (rows : Option (Bool × Hint)) → (rest ≡ option_map (λ row. row.1) rows)
+        → cond is (Some hint) rest ≡ option_map (λ row. row.1) (cond is (Some (is, hint)) rows)
+    by-test true rows e = refl
+    by-test false rows e = e
+
+-- So the first cause in that order that shows is the rule's hint.
+pub hint-shown : (number : ℕ) (line : TextLine) → find (shows number line) in_order ≡ hint_of number line
+hint-shown number line = first-shown number line in_order ∙ found-first (map (row_for number line) in_order)

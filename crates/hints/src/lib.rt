@@ -1,12 +1,12 @@
 // Where and why a list is refused: the line, the refusal, and a hint where a common cause shows in the bytes of that line.
 #![tactic(auto)]
 
-ghost use Rattle.std.specs.Prelude.{◌≡◌, length, map};
+ghost use Rattle.std.specs.Prelude.{◌≡◌, length};
 ghost use Rattle.plan.specs.deciding.Reading.{cut_line};
 ghost use Rattle.hints.specs.Explained.{Explained};
 ghost use Rattle.hints.specs.Hint.{within, has, has_separator, ends_in, starts_with, starts_with_mark, lacks_feed, is_heading};
-ghost use Rattle.hints.specs.Hint.{first_hint, line_of, hint_of};
-ghost use Rattle.hints.specs.TestLaws.{row_of};
+ghost use Rattle.hints.specs.Hint.{line_of, hint_of};
+ghost use Rattle.hints.specs.TestLaws.{shows};
 
 use plan::limits::TextLimits;
 use plan::list::refused_line;
@@ -127,30 +127,48 @@ fn is_heading(line: usize, bytes: &[u8]) -> bool
     line == 1 && !has_byte(bytes, b'0', b'9')
 }
 
-// The hint of the first row whose test holds: a row is a test and its hint, as in the rule's table (`hint_tests`).
-fn first_hint(rows: &[(bool, Hint)]) -> Option<Hint>
-    ensures { result ≡ first_hint (map row_of rows.now) }
-{
-    rows.iter().find(|row| row.0).map(|row| row.1)
+// The causes, in the order of the rule's table (`hint_tests`).
+const HINTS: [Hint; 10] = [
+    Hint::ByteOrderMark,
+    Hint::Empty,
+    Hint::CarriageReturn,
+    Hint::NoLineFeed,
+    Hint::LongLine,
+    Hint::Heading,
+    Hint::EndTab,
+    Hint::Separator,
+    Hint::LowerCase,
+    Hint::Point,
+];
+
+impl Hint {
+    // Whether the cause shows in a line, given its number, its bytes without the line feed and whether it has one.
+    fn shows(self, line: usize, bytes: &[u8], ended: bool) -> bool
+        ensures { result ≡ shows line (line_of bytes.now ended) self }
+    {
+        match self {
+            Hint::ByteOrderMark => starts_with_mark(bytes),
+            Hint::Empty => bytes.is_empty(),
+            Hint::CarriageReturn => has_byte(bytes, b'\r', b'\r'),
+            Hint::NoLineFeed => lacks_feed(bytes, ended),
+            Hint::LongLine => !ended,
+            Hint::Heading => is_heading(line, bytes),
+            Hint::EndTab => ends_in(bytes, b'\t'),
+            Hint::Separator => has_separator(bytes),
+            Hint::LowerCase => has_byte(bytes, b'a', b'z'),
+            Hint::Point => has_byte(bytes, b'.', b'.'),
+        }
+    }
 }
 
-// The hint for a line, given its bytes without the line feed and whether it has one. The table is `hint_tests` (edit point_before_lower_case).
-// Number, bytes and end are what its tests look at; a struct of them for two calls would be no plainer.
+// The hint for a line: the first cause that shows. A cause behind it is not looked for, since a line may be long.
 fn hint_of(line: usize, bytes: &[u8], ended: bool) -> Option<Hint>
     ensures { result ≡ hint_of line (line_of bytes.now ended) }
 {
-    first_hint(&[
-        (starts_with_mark(bytes), Hint::ByteOrderMark),
-        (bytes.is_empty(), Hint::Empty),
-        (has_byte(bytes, b'\r', b'\r'), Hint::CarriageReturn),
-        (lacks_feed(bytes, ended), Hint::NoLineFeed),
-        (!ended, Hint::LongLine),
-        (is_heading(line, bytes), Hint::Heading),
-        (ends_in(bytes, b'\t'), Hint::EndTab),
-        (has_separator(bytes), Hint::Separator),
-        (has_byte(bytes, b'a', b'z'), Hint::LowerCase),
-        (has_byte(bytes, b'.', b'.'), Hint::Point),
-    ])
+    HINTS
+        .iter()
+        .copied()
+        .find(|hint| hint.shows(line, bytes, ended))
 }
 
 // The hint for line number `line`, from 1, of a list; `text` starts at that line and runs on to the end of the list.

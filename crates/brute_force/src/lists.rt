@@ -67,7 +67,9 @@ fn draw_point(random: &mut Random, last: u32) -> Place
     Place { x, y }
 }
 
-fn draw_frame(random: &mut Random) -> Frame {
+fn draw_frame(random: &mut Random) -> Frame
+    ensures { result.last ≤ 10000 }
+{
     let shape = draw_shape(random);
     let last = draw_last(random);
     let here = draw_point(random, last - 2);

@@ -1,6 +1,8 @@
 // Answers that are wrong for document 01's list A, B, C, whose side is 6 with corners 3, 1, 1, and above the spot 8 with 1, 1, 1, and for
 // a column of seven sites. Judging the product by them is meant to tell of a difference each, so that the stored output changes when the
 // comparing breaks, or when a way is taken for the other.
+ghost use Rattle.std.specs.Prelude.{◌≡◌};
+
 use crate::answer::Answer;
 use crate::counts::Tally;
 use crate::labels::labels_of;
@@ -22,7 +24,9 @@ const SEVEN: [Place; 7] = [
 ];
 
 // An answer with these corners for the first of the sites.
-fn answer(side: u64, corners: &[u8]) -> Answer {
+fn answer(side: u64, corners: &[u8]) -> Answer
+    ensures { result.side ≡ Side.Number side }
+{
     Answer {
         side: Side::Number(side),
         labels: Some(labels_of(&SEVEN, corners)),

@@ -75,6 +75,13 @@ impl State {
         self.lent.truncate(bytes);
     }
 
+    // Reads a list into the plan, which is empty where that is refused.
+    fn read(&mut self, text: &[u8]) -> Result<(), Refusal> {
+        let (plan, outcome) = Plan::read(text);
+        self.plan = plan;
+        outcome
+    }
+
     // Places the plan by a way: finds its side and chooses there, with one work table.
     fn place(&mut self, way: Way) -> Result<(), Refusal> {
         let side = self.plan.find(way, &mut self.lent)?;
@@ -88,7 +95,7 @@ impl State {
         }
         match question {
             Question::Enter { name, x, y } => accepted(self.plan.enter(name, *x, *y)),
-            Question::Read(text) => accepted(self.plan.read(text)),
+            Question::Read(text) => accepted(self.read(text)),
             Question::Find { way, .. } => answered(self.plan.find(*way, &mut self.lent).map(Size)),
             Question::Choose { way, side, .. } => {
                 accepted(self.plan.choose_at(*way, *side, &mut self.lent))

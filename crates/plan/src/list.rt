@@ -76,17 +76,16 @@ impl Plan {
         Ok(())
     }
 
-    // Reads a whole list, or refuses it at its first refused line; the plan is then empty.
-    pub fn read(&mut self, text: &[u8]) -> Result<(), Refusal>
-        ensures answer { record { outcome = result; plan = self.new } ≡ read_from text.now }
-        ensures told { ReadTold text.now (record { outcome = result; plan = self.new }) }
+    // Reads a whole list into a plan of its own, or refuses it at its first refused line; the plan is then empty.
+    pub fn read(text: &[u8]) -> (Plan, Result<(), Refusal>)
+        ensures answer { record { outcome = result.1; plan = result.0 } ≡ read_from text.now }
+        ensures told { ReadTold text.now (record { outcome = result.1; plan = result.0 }) }
     {
-        *self = Plan::start();
-        if let Err(line) = self.read_lines(text) {
-            *self = Plan::start();
-            return Err(line.why);
+        let mut plan = Plan::start();
+        match plan.read_lines(text) {
+            Ok(()) => (plan, Ok(())),
+            Err(line) => (Plan::start(), Err(line.why)),
         }
-        Ok(())
     }
 }
 

@@ -55,34 +55,43 @@ fn put_planned(
 }
 
 impl Plan {
-    // Reads a list and places it by a way at the side found; where the list is refused or has no sites, the plan is empty. It lends both
-    // calls a work table of its own. This and `place_list_at` are two: they refuse in another order, and each has its own clause `told`.
-    pub fn place_list(&mut self, text: &[u8], way: Way) -> Result<(), Refusal>
-        ensures answer { record { outcome = result; plan = self.new } ≡ list_placed way text.now }
-        ensures told { ListTold way text.now (record { outcome = result; plan = self.new }) }
+    // The plan of a list, placed by a way at the side found; where the list is refused or has no sites, an empty plan. It lends both calls a
+    // work table of its own. This and `place_list_at` are two: they refuse in another order, and each has its own clause `told`.
+    pub fn place_list(text: &[u8], way: Way) -> (Plan, Result<(), Refusal>)
+        ensures answer { record { outcome = result.1; plan = result.0 } ≡ list_placed way text.now }
+        ensures told { ListTold way text.now (record { outcome = result.1; plan = result.0 }) }
     {
-        self.read(text)?;
+        let (mut plan, read) = Plan::read(text);
+        if read.is_err() {
+            return (plan, read);
+        }
         let mut table = [0u8; TextLimits::TABLE];
-        let side = self.find(way, &mut table)?;
-        self.choose_at(way, side, &mut table)
+        match plan.find(way, &mut table) {
+            Ok(side) => {
+                let placed = plan.choose_at(way, side, &mut table);
+                (plan, placed)
+            }
+            Err(why) => (plan, Err(why)),
+        }
     }
 
-    // Reads a list and places it by a way at a given side; where that is refused, the plan is empty.
-    pub fn place_list_at(&mut self, text: &[u8], way: Way, side: Side) -> Result<(), Refusal>
-        ensures answer { record { outcome = result; plan = self.new } ≡ list_placed_at way side text.now }
-        ensures told { ListToldAt way side text.now (record { outcome = result; plan = self.new }) }
+    // The plan of a list, placed by a way at a given side; an empty plan where that is refused.
+    pub fn place_list_at(text: &[u8], way: Way, side: Side) -> (Plan, Result<(), Refusal>)
+        ensures answer { record { outcome = result.1; plan = result.0 } ≡ list_placed_at way side text.now }
+        ensures told { ListToldAt way side text.now (record { outcome = result.1; plan = result.0 }) }
     {
         if !is_side(side) {
-            *self = Plan::start();
-            return Err(Refusal::BadNumber);
+            return (Plan::start(), Err(Refusal::BadNumber));
         }
-        self.read(text)?;
+        let (mut plan, listed) = Plan::read(text);
+        if listed.is_err() {
+            return (plan, listed);
+        }
         let mut work_table = [0u8; TextLimits::TABLE];
-        if let Err(why) = self.choose_at(way, side, &mut work_table) {
-            *self = Plan::start();
-            return Err(why);
+        match plan.choose_at(way, side, &mut work_table) {
+            Ok(()) => (plan, Ok(())),
+            Err(why) => (Plan::start(), Err(why)),
         }
-        Ok(())
     }
 }
 
@@ -92,8 +101,7 @@ pub fn output(text: &[u8], way: Way, buffer: &mut [u8; TextLimits::SHEET]) -> us
     ensures buffer { buffer.new ≡ filled_with (output_of way text.now) buffer.old }
     ensures answered { Answered way text.now (take result buffer.new) }
 {
-    let mut plan = Plan::start();
-    let placed = plan.place_list(text, way);
+    let (plan, placed) = Plan::place_list(text, way);
     put_planned(placed, &plan, buffer)
 }
 
@@ -103,7 +111,6 @@ pub fn output_at(text: &[u8], way: Way, side: Side, buffer: &mut [u8; TextLimits
     ensures buffer { buffer.new ≡ filled_with (output_at way side text.now) buffer.old }
     ensures answered { AnsweredAt way side text.now (take result buffer.new) }
 {
-    let mut plan = Plan::start();
-    let placed = plan.place_list_at(text, way, side);
+    let (plan, placed) = Plan::place_list_at(text, way, side);
     put_planned(placed, &plan, buffer)
 }

@@ -48,8 +48,8 @@ fn write_sheet(list: &[u8], way: u32, buffer: &mut [u8]) -> Result<usize, Refusa
     ensures { as_called result buffer.new ≡ called (way_of way) list.now buffer.old }
 {
     let given = way_of(way).ok_or(Refusal::BadNumber)?;
-    let mut plan = Plan::start();
-    plan.place_list(list, given)?;
+    let (plan, placed) = Plan::place_list(list, given);
+    placed?;
     plan.write(buffer)
 }
 
@@ -58,8 +58,8 @@ fn write_sheet_at(list: &[u8], way: u32, side: u32, buffer: &mut [u8]) -> Result
     ensures { as_called result buffer.new ≡ called_at (way_of way) (side_of side) list.now buffer.old }
 {
     let given = way_of(way).ok_or(Refusal::BadNumber)?;
-    let mut plan = Plan::start();
-    plan.place_list_at(list, given, side_of(side))?;
+    let (plan, placed) = Plan::place_list_at(list, given, side_of(side));
+    placed?;
     plan.write(buffer)
 }
 

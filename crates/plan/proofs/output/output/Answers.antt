@@ -15,14 +15,14 @@ unfolding placed_with
 put_planned-requires c =
     let args = c.args in
     handed-put (placed_plan args.way) started (to_place (read_list args.text.now))
-    c.place_list-placed.ensures.answer (λ sites. refl)
+    c.place_list-plan.ensures.answer (λ sites. refl)
 
 pub returns : goal.returns
 returns c =
     let args = c.args in
     let text = args.text.now in
     let put = output-put args.buffer.now (output_of args.way text)
-    (placed-output args.way text c.place_list-placed.ensures.answer) c.put_planned.ensures.length c.put_planned.ensures.buffer in
+    (placed-output args.way text c.place_list-plan.ensures.answer) c.put_planned.ensures.length c.put_planned.ensures.buffer in
     record {
       length = put.0;
       buffer = put.1.0;

@@ -15,14 +15,14 @@ unfolding placed_with
 put_planned-requires c =
     let args = c.args in
     handed-put (placed_at args.way args.side) started (to_place_at args.side (exists_at args.way args.side) (read_list args.text.now))
-    c.place_list_at-placed.ensures.answer (λ sites. refl)
+    c.place_list_at-plan.ensures.answer (λ sites. refl)
 
 pub returns : goal.returns
 returns c =
     let args = c.args in
     let text = args.text.now in
     let put = output-put args.buffer.now (output_at args.way args.side text)
-    (placed-output-at args.way args.side text c.place_list_at-placed.ensures.answer) c.put_planned.ensures.length c.put_planned.ensures.buffer in
+    (placed-output-at args.way args.side text c.place_list_at-plan.ensures.answer) c.put_planned.ensures.length c.put_planned.ensures.buffer in
     record {
       length = put.0;
       buffer = put.1.0;

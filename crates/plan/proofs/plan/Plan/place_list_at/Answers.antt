@@ -1,5 +1,6 @@
 -- `Plan::place_list_at` meets its contract: the side or the list is refused, or its plan is placed at the side, with a table that is enough
 -- for every plan. Assumes nothing.
+use Rattle.std.specs.Prelude.{Ok}
 use mathlib.Core.Path.{◌≡◌, refl, sym, ap, ◌∙◌}
 use mathlib.Core.Bool.{true}
 use Prim.Native.Nat.{ℕ}
@@ -9,8 +10,9 @@ use Rattle.plan.specs.declared.plan.Plan.{Plan}
 use Rattle.plan.specs.declared.refusal.Refusal.TheVariants.{BadNumber}
 use Rattle.plan.specs.calls.Lengths.{full_table}
 use Rattle.plan.specs.theorems.Output.{list-told-at}
-use Rattle.plan.specs.code.CallLaws.{refusal-of, handed-back}
+use Rattle.plan.specs.code.CallLaws.{refusal-of}
 use Rattle.plan.specs.code.Filling.{side-refused-at, reading-refused-at, choosing-done, choosing-refused}
+use borrow.Author.Rules.{rules}
 use Rattle.plan.proofs.plan.Plan.place_list_at.Goals as goal
 
 pub returns-then-not-is_side : goal.returns-then-not-is_side
@@ -23,16 +25,20 @@ returns-then-not-is_side c =
       told = list-told-at c.args.way c.args.side text refused;
     }
 
-pub returns-in_err-read : goal.returns-in_err-read
-returns-in_err-read c =
+pub returns-then-is_err-clause-told : goal.returns-then-is_err-clause-told
+returns-then-is_err-clause-told c = list-told-at c.args.way c.args.side c.args.text.now (search rules)
+
+pub returns-in-Ok : goal.returns-in-Ok
+returns-in-Ok c =
     let given : is_side c.args.side ≡ true =
     sym c.is_side.ensures ∙ c.if-not-is_side.false in
     let text = c.args.text.now in
-    let refused = handed-back c.read.new.self c.from_residual.ensures.1
-    ∙ reading-refused-at c.args.way c.args.side given text c.read.ensures.answer c.in_err-read.was in
+    let done : c.read-plan.result.1 ≡ Ok tt = search rules in
+    let placed = choosing-done c.args.way c.args.side given text (replicate full_table 0) (length-replicate {A = ℕ} full_table 0)
+    c.read-plan.ensures.answer done c.in-Ok.ensures.answer refl in
     record {
-      answer = refused;
-      told = list-told-at c.args.way c.args.side text refused;
+      answer = placed;
+      told = list-told-at c.args.way c.args.side text placed;
     }
 
 pub returns-in-Err : goal.returns-in-Err
@@ -40,22 +46,11 @@ returns-in-Err c =
     let given : is_side c.args.side ≡ true =
     sym c.is_side.ensures ∙ c.if-not-is_side.false in
     let text = c.args.text.now in
+    let done : c.read-plan.result.1 ≡ Ok tt = search rules in
     let refused = ap (λ (p : Plan). refusal-of p c.in-Err.why) c.start-in-Err.ensures
     ∙ choosing-refused c.args.way c.args.side given text (replicate full_table 0) (length-replicate {A = ℕ} full_table 0)
-    c.read.ensures.answer c.in_ok-read.was c.in-Err.ensures.answer refl in
+    c.read-plan.ensures.answer done c.in-Err.ensures.answer refl in
     record {
       answer = refused;
       told = list-told-at c.args.way c.args.side text refused;
-    }
-
-pub returns : goal.returns
-returns c =
-    let given : is_side c.args.side ≡ true =
-    sym c.is_side.ensures ∙ c.if-not-is_side.false in
-    let text = c.args.text.now in
-    let placed = choosing-done c.args.way c.args.side given text (replicate full_table 0) (length-replicate {A = ℕ} full_table 0)
-    c.read.ensures.answer c.in_ok-read.was c.in_default.ensures.answer refl in
-    record {
-      answer = placed;
-      told = list-told-at c.args.way c.args.side text placed;
     }

@@ -1,9 +1,10 @@
 -- The digits that the library prints are those of a number as in a list, and so are its fewest digits in base 10; and the bytes of what is
 -- told.
 -- Assumes nothing.
-use Rattle.std.specs.Prelude.{◌≡◌, refl, List, [], ◌∷◌, ◌++◌, ℕ, zero, suc, ◌+◌, ◌-◌, ◌*◌, ◌/◌, ◌%◌, ◌^◌, ◌≤◌, ◌<◌, Ok, Err, take}
+use Rattle.std.specs.Prelude.{◌≡◌, refl, List, [], ◌∷◌, ◌++◌, ℕ, zero, suc, ◌+◌, ◌-◌, ◌*◌, ◌/◌, ◌%◌, ◌^◌, ◌≤◌, ◌<◌, Ok, Err, length, take}
 use Rattle.std.specs.Prelude as rattle
-use Rattle.std.proofs.Common.{sym, ◌∙◌, subst, pow-suc, arith, lt-ltb}
+use Rattle.std.proofs.Common.{sym, ◌∙◌, subst, pow-suc, arith, lt-ltb, length-append}
+use Rattle.std.proofs.Math.Decide.{dec_lt}
 use Rattle.std.proofs.Math.Nat.{pow-le-pow_right}
 use Rattle.std.proofs.lemmas.Fmt.{decimal_by_steps}
 use Rattle.placing.specs.declared.units.Growth.TheVariants.{Never}
@@ -74,3 +75,17 @@ told-texts = (λ g. refl, (refl, λ why. refl))
 -- An array that holds bytes has them at its front.
 pub holds-bytes : {text : Text} {bytes : List ℕ} → Holds text bytes → take text.len text.bytes ≡ bytes
 holds-bytes holds = holds.held
+
+-- A number of 32 bits has at most ten digits.
+pub decimal_ten : (n : ℕ) → n < 2 ^ 32 → length (decimal n) ≤ 10
+decimal_ten n fits = digits_most 9 n (omega arith)
+  where
+    digits_most : (k n : ℕ) → n < 10 ^ suc k → length (decimal n) ≤ suc k
+    digits_most zero n small = rw (decimal_digit n small) (omega arith)
+    digits_most (suc k) n small = by_size (dec_lt n 10) (digits_most k (n / 10))
+      where
+        by_size : Dec (n < 10) → (n / 10 < 10 ^ suc k → length (decimal (n / 10)) ≤ suc k) → length (decimal n) ≤ suc (suc k)
+        by_size (yes one) tenth = rw (decimal_digit n one) (omega arith)
+        by_size (no large) tenth =
+            let fewer = tenth (omega (arith, pow-suc 10 (suc k))) in
+            rw (decimal-large n (omega arith)) (simp length-append (omega arith))

@@ -7,7 +7,7 @@ ghost use Rattle.grow.specs.Text.{asked_text};
 
 use crate::asked::SixWords;
 use crate::explain::tell_refused;
-use crate::text::Told;
+use crate::text::asked_text;
 use std::io;
 use std::io::Write;
 
@@ -21,7 +21,9 @@ pub(crate) fn write_growth<W: Write, E: Write>(
         (asked_text (growth_by_words words.now.own words.now.other) ++ (line_feed ∷ []))) }
 {
     let asked = words.growth();
-    writeln!(out, "{}", Told(asked))?;
+    let told = asked_text(asked);
+    out.write_all(told.text())?;
+    out.write_all(b"\n")?;
     if asked.is_err() {
         tell_refused(err, words);
     }

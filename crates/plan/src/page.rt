@@ -7,7 +7,7 @@ use crate::limits::TextLimits;
 use std::marker::Model;
 
 #[derive(Drop)]
-pub(crate) struct Page {
+pub struct Page {
     bytes: [u8; TextLimits::SHEET],
     len: usize,
 }
@@ -27,7 +27,7 @@ impl Model for Page {
 
 impl Page {
     // No text.
-    pub(crate) fn new() -> Page
+    pub fn new() -> Page
         ensures { result ≡ [] }
     {
         Page {
@@ -37,7 +37,7 @@ impl Page {
     }
 
     // One byte more.
-    pub(crate) fn byte(&mut self, b: u8)
+    pub fn byte(&mut self, b: u8)
         requires { length self.old < longest_sheet }
         ensures text { self.new ≡ self.old ++ (b ∷ []) }
         ensures len { length self.new ≡ length self.old + 1 }
@@ -47,7 +47,7 @@ impl Page {
     }
 
     // The bytes of a text more.
-    pub(crate) fn put(&mut self, text: &[u8])
+    pub fn put(&mut self, text: &[u8])
         requires { length self.old + length text.now ≤ longest_sheet }
         ensures text { self.new ≡ self.old ++ text.now }
         ensures len { length self.new ≡ length self.old + length text.now }
@@ -59,7 +59,7 @@ impl Page {
 
     // A number more, in decimal: the digits of its tenth part, then its last digit. By hand, since a page cannot fail, and `write!` hands
     // back a Result (edit number_ends_in_zero).
-    pub(crate) fn number(&mut self, n: u32)
+    pub fn number(&mut self, n: u32)
         requires { length self.old + length (decimal n) ≤ longest_sheet }
         ensures text { self.new ≡ self.old ++ decimal n }
         ensures len { length self.new ≡ length self.old + length (decimal n) }
@@ -73,7 +73,7 @@ impl Page {
     }
 
     // The text.
-    pub(crate) fn text(&self) -> &[u8]
+    pub fn text(&self) -> &[u8]
         ensures text { result.now ≡ self.now }
         ensures fits { length result.now ≤ longest_sheet }
     {

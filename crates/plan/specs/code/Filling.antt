@@ -3,7 +3,7 @@
 -- Assumes nothing.
 use Rattle.std.proofs.Math.Path.{◌≡◌, refl, sym, ap, subst}
 use Rattle.std.proofs.Common.{◌∙◌, mul-le-mul, arith, take_at}
-use Rattle.std.specs.Prelude.{Bool, true, false, not, ℕ, ◌*◌, ◌≤◌, ◌<◌, eqb, Ok, Err, drop}
+use Rattle.std.specs.Prelude.{Bool, true, false, not, ℕ, ◌*◌, ◌≤◌, ◌<◌, eqb, Ok, Err, IsErr, drop}
 use Rattle.std.proofs.lemmas.Bool.{false≢true}
 use mathlib.Core.List.{List, [], ◌∷◌}
 use Rattle.std.proofs.Math.ListN.{length, take}
@@ -138,16 +138,14 @@ abbrev outcome_of : Planned → Outcome
 outcome_of p = p.outcome
 
 -- Where reading is refused, so is the list.
-pub reading-refused : (way : Way) (text : List ℕ) {listed : Planned} {why : Refusal} → listed ≡ read_from text
-    → listed.outcome ≡ Err why → refusal-of listed.plan why ≡ list_placed way text
-reading-refused way text {listed} {why} listed-is is =
-    subst (λ (p : Planned). refusal-of p.plan why ≡ list_placed way text) (sym listed-is)
-    (by-sites (read_list text) (ap outcome_of (sym listed-is) ∙ is))
+pub reading-refused : (way : Way) (text : List ℕ) {listed : Planned} → listed ≡ read_from text → IsErr listed.outcome
+    → listed ≡ list_placed way text
+reading-refused way text {listed} listed-is is = listed-is ∙ by-sites (read_list text) (subst (λ (p : Planned). IsErr p.outcome) listed-is is)
   where
-    by-sites : (sites : Result (List Site)) → (handed unplaced_plan started sites).outcome ≡ Err why
-        → refusal-of (handed unplaced_plan started sites).plan why ≡ handed (placed_plan way) started (to_place sites)
-    by-sites (accepted sites) is = let z : ◌≡◌ {A = ℕ} 0 1 = cc in absurd (omega arith)
-    by-sites (refused other) is = let same : why ≡ other = cc in ap (refusal-of started) same
+    by-sites : (sites : Result (List Site)) → IsErr (handed unplaced_plan started sites).outcome
+        → handed unplaced_plan started sites ≡ handed (placed_plan way) started (to_place sites)
+    by-sites (accepted sites) is = absurd (false≢true is)
+    by-sites (refused why) is = refl
 
 -- A table of 57,600 bytes is enough for the sites of every plan.
 enough : {sites : List Site} (text table : List ℕ) → length table ≡ full_table → read_list text ≡ accepted sites
@@ -221,18 +219,16 @@ side-refused-at way side text given = rw given
 
 module _ (way : Way) (side : Side) (given : is_side side ≡ true) (text : List ℕ) where
   -- Where reading is refused, so is the list.
-  pub reading-refused-at : {listed : Planned} {why : Refusal} → listed ≡ read_from text → listed.outcome ≡ Err why
-      → refusal-of listed.plan why ≡ list_placed_at way side text
-  reading-refused-at {listed} {why} listed-is is =
-      rw given
-      (ap (λ (p : Planned). refusal-of p.plan why) listed-is ∙ by-sites (read_list text) (ap outcome_of (sym listed-is) ∙ is))
+  pub reading-refused-at : {listed : Planned} → listed ≡ read_from text → IsErr listed.outcome → listed ≡ list_placed_at way side text
+  reading-refused-at {listed} listed-is is =
+      rw given (listed-is ∙ by-sites (read_list text) (subst (λ (p : Planned). IsErr p.outcome) listed-is is))
     where
-      by-sites : (sites : Result (List Site)) → (handed unplaced_plan started sites).outcome ≡ Err why
-          → refusal-of (handed unplaced_plan started sites).plan why
+      by-sites : (sites : Result (List Site)) → IsErr (handed unplaced_plan started sites).outcome
+          → handed unplaced_plan started sites
           ≡ handed (placed_at way side) started
           (after sites (λ l. after_tests (no_sites (length l) ∷ no_good (exists_at way side l) ∷ []) l))
-      by-sites (accepted sites) is = let z : ◌≡◌ {A = ℕ} 0 1 = cc in absurd (omega arith)
-      by-sites (refused other) is = let same : why ≡ other = cc in ap (refusal-of started) same
+      by-sites (accepted sites) is = absurd (false≢true is)
+      by-sites (refused why) is = refl
 
   -- So, with a table that is long enough, the list is placed,
   module _ {listed chosen : Planned} (table : List ℕ) (size : length table ≡ full_table) (listed-is : listed ≡ read_from text)

@@ -7,7 +7,7 @@ use Prim.Native.Nat.{ℕ}
 use lib.ListN.{length, replicate, length-replicate}
 use Rattle.plan.specs.calls.Lengths.{full_table}
 use Rattle.plan.specs.theorems.Output.{list-told}
-use Rattle.plan.specs.code.Filling.{reading-unfound, reading-placed}
+use Rattle.plan.specs.code.Filling.{reading-refused, reading-unfound, reading-placed}
 use borrow.Author.Rules.{rules}
 use Rattle.plan.proofs.plan.Plan.place_list.Goals as goal
 
@@ -18,8 +18,14 @@ lent = replicate full_table 0
 lent-size : length lent ≡ full_table
 lent-size = length-replicate {A = ℕ} full_table 0
 
-pub returns-then-is_err-clause-told : goal.returns-then-is_err-clause-told
-returns-then-is_err-clause-told c = list-told c.args.way c.args.text.now (search rules)
+pub returns-then-is_err : goal.returns-then-is_err
+returns-then-is_err c =
+    let args = c.args in
+    let refused = reading-refused args.way args.text.now c.read-plan.ensures.answer (sym c.if-is_err.ensures.value) in
+    record {
+      answer = refused;
+      told = list-told args.way args.text.now refused;
+    }
 
 pub returns-in-Ok : goal.returns-in-Ok
 returns-in-Ok c =

@@ -25,8 +25,16 @@ returns-then-not-is_side c =
       told = list-told-at c.args.way c.args.side text refused;
     }
 
-pub returns-then-is_err-clause-told : goal.returns-then-is_err-clause-told
-returns-then-is_err-clause-told c = list-told-at c.args.way c.args.side c.args.text.now (search rules)
+pub returns-then-is_err : goal.returns-then-is_err
+returns-then-is_err c =
+    let given : is_side c.args.side ≡ true =
+    sym c.is_side.ensures ∙ c.if-not-is_side.false in
+    let text = c.args.text.now in
+    let refused = reading-refused-at c.args.way c.args.side given text c.read-plan.ensures.answer (sym c.if-is_err.ensures.value) in
+    record {
+      answer = refused;
+      told = list-told-at c.args.way c.args.side text refused;
+    }
 
 pub returns-in-Ok : goal.returns-in-Ok
 returns-in-Ok c =

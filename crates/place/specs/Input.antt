@@ -79,14 +79,15 @@ pub record AllRead (start room : List ℕ) (n : ℕ) : Type 0 where
   pub finished : Finished (record { at = n; last = last }) room
   pub sound : Sound last
 
--- Reading came to a read that failed.
-pub record FailedRead (start room : List ℕ) : Type 0 where
+-- Reading came to a read that failed; and it was so that the source's last read failed, as `has_failed` says.
+pub record FailedRead (has_failed : Type 0) (start room : List ℕ) : Type 0 where
   pub reading : Reading
   pub reads : InputReads start reading room
   pub finished : Finished reading room
   pub failed : reading.last ≡ Failed
+  pub source_failed : has_failed
 
--- What came of reading, by the room before and afterwards: so many bytes, or an error.
-abbrev pub ReadTo : {E : Type 0} → (start : List ℕ) → Result ℕ E → (room : List ℕ) → Type 0
-ReadTo start (Ok n) room = AllRead start room n
-ReadTo start (Err e) room = FailedRead start room
+-- What came of reading, by the room before and afterwards: so many bytes, or an error, which only a source gives whose last read failed.
+abbrev pub ReadTo : {E : Type 0} → (has_failed : Type 0) → (start : List ℕ) → Result ℕ E → (room : List ℕ) → Type 0
+ReadTo has_failed start (Ok n) room = AllRead start room n
+ReadTo has_failed start (Err e) room = FailedRead has_failed start room

@@ -1,6 +1,6 @@
 -- Laws of reading the input, for the proofs of the functions that read.
 -- Assumes nothing.
-use Rattle.std.specs.Prelude.{◌≡◌, refl, List, ◌++◌, ℕ, zero, suc, ◌+◌, ◌-◌, ◌<◌, ◌≤◌, Option, Result, Ok, Err, IfOk, length, take, drop}
+use Rattle.std.specs.Prelude.{◌≡◌, refl, List, ◌++◌, ℕ, zero, suc, ◌+◌, ◌-◌, ◌<◌, ◌≤◌, Option, Result, Ok, Err, IfOk, OnErr, length, take, drop}
 use Rattle.std.specs.Io.KnownBytes.{Consumes}
 use Rattle.std.proofs.Common.{sym, ap, ◌∙◌, subst, add-zero, arith, length-take, length-drop}
 use Rattle.std.proofs.Math.Seq.{take-add}
@@ -94,13 +94,14 @@ module _ {E : Type 0} {start room after : List ℕ} {at last : ℕ} (reads : Inp
   within is = subst (λ (g : Result ℕ E). at + bytes_of (step_of g) ≤ length after) is behind.within
 
   -- Where it fails, reading came to a read that failed,
-  pub failed-to : {e : E} → got ≡ Err e → FailedRead start after
-  failed-to {e} is =
+  pub failed-to : {has_failed : Type 0} {e : E} → got ≡ Err e → OnErr got has_failed → FailedRead has_failed start after
+  failed-to {has_failed} {e} is failed =
       record {
         reading = after_read at (Err e);
         reads = read-more is;
         finished = record { within = within is; over = refl };
         failed = refl;
+        source_failed = subst (λ (g : Result ℕ E). OnErr g has_failed) is failed;
       }
 
   -- where it brings nothing, to the end of the input,

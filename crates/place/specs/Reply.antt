@@ -33,14 +33,14 @@ pub record Whole (way : Way) (at : Option Side) (start room : List ℕ) (answer 
   pub is_output_for : OutputFor way at (take answer.read room) answer.written buffer
 
 -- The last read failed.
-pub record CutShort (start room : List ℕ) : Type 0 where
-  pub failed_read : FailedRead start room
+pub record CutShort (has_failed : Type 0) (start room : List ℕ) : Type 0 where
+  pub failed_read : FailedRead has_failed start room
   pub size : length room ≡ longest_text
 
--- The answer, by the room before and afterwards and the buffer afterwards.
-abbrev pub Replied : {E : Type 0} → Way → Option Side → (start room : List ℕ) → Result Answer E → List ℕ → Type 0
-Replied way at start room (Ok answer) buffer = Whole way at start room answer buffer
-Replied way at start room (Err e) buffer = CutShort start room
+-- The answer, by whether the source's last read failed, the room before and afterwards and the buffer afterwards.
+abbrev pub Replied : {E : Type 0} → (has_failed : Type 0) → Way → Option Side → (start room : List ℕ) → Result Answer E → List ℕ → Type 0
+Replied has_failed way at start room (Ok answer) buffer = Whole way at start room answer buffer
+Replied has_failed way at start room (Err e) buffer = CutShort has_failed start room
 
 -- The list is refused, with some number.
 abbrev pub IsRefused : Way → Option Side → List ℕ → Type 0

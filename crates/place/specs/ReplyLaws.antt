@@ -110,11 +110,13 @@ module _ {way : Way} {at : Option Side} {start room : List ℕ} {answer : Answer
       (ap (take longest_text) brought
       ∙ front-decides longest_text answer.read room rest replied.all_read.finished.within replied.size ends)
 
--- Where there is no output, reading came to a read that failed.
-pub replied-unread : {E : Type 0} (way : Way) (at : Option Side) {start room : List ℕ} (e : E) (buffer : List ℕ)
-    → Replied way at start room (Err e) buffer → (reading : Reading) × (InputReads start reading room × (reading.last ≡ Failed))
+-- Where there is no output, reading came to a read that failed, the last of the source.
+pub replied-unread : {E has_failed : Type 0} (way : Way) (at : Option Side) {start room : List ℕ} (e : E) (buffer : List ℕ)
+    → Replied has_failed way at start room (Err e) buffer
+    → has_failed × ((reading : Reading) × (InputReads start reading room × (reading.last ≡ Failed)))
 replied-unread way at e buffer replied =
-    (replied.failed_read.reading, (replied.failed_read.reads, replied.failed_read.failed))
+    let failed = replied.failed_read in
+    (failed.source_failed, (failed.reading, (failed.reads, failed.failed)))
 
 -- Reading before its last read: bytes might still come, those that had come stay, and those of the last read are counted.
 pub record BeforeLast (start : List ℕ) (reading : Reading) (room : List ℕ) : Type 0 where

@@ -1,6 +1,6 @@
 // Reading the list from standard input, and writing its answer. Nothing but `answer_input` is seen outside, so that no answer and no
 // reading can be made up elsewhere.
-ghost use Rattle.std.specs.Prelude.{◌≡◌, ◌<◌, IfOk, IfSome, OnOk, IsErrOf, length, take, drop};
+ghost use Rattle.std.specs.Prelude.{◌≡◌, ◌<◌, IfOk, IfSome, OnOk, OnErr, IsErrOf, length, take, drop};
 ghost use Rattle.std.specs.Io.KnownBytes.{Appends, Consumes, IsAtEnd, Keeps, ReadConsumes};
 ghost use Rattle.plan.specs.rules.List.{longest_text};
 ghost use Rattle.plan.specs.rules.Calls.{filled_with};
@@ -9,9 +9,10 @@ ghost use Rattle.place.specs.Reply.{output_by, Replied};
 
 use crate::asked::How;
 use crate::explain::tell_refused;
+use crate::source::Source;
 use plan::limits::TextLimits;
 use plan::output::{output, output_at};
-use std::io::{Read, Write};
+use std::io::Write;
 use std::{fmt, io};
 
 // How many bytes were read of a list, and how many its output has.
@@ -39,19 +40,21 @@ impl fmt::Display for Fault {
 
 // One read into what is left of the room: how many bytes it brought, and none where the input has ended. A function of its own,
 // which the edits reads_over_each_other and failed_read_as_end change.
-fn read_once<R: Read>(input: &mut R, text: &mut [u8], at: usize) -> io::Result<usize>
+fn read_once<S: Source>(input: &mut S, text: &mut [u8], at: usize) -> io::Result<usize>
     requires { at < length text.old }
     ensures behind { ReadBehind at text.old (after_read at result) text.new }
-    ensures bytes { ReadConsumes (R.remaining input.old) (R.remaining input.new) result (drop at text.new) }
+    ensures bytes { ReadConsumes (S.remaining input.old) (S.remaining input.new) result (drop at text.new) }
+    ensures failed { OnErr result (S.has_failed input.new) }
 {
-    input.read(&mut text[at..])
+    input.bring(&mut text[at..])
 }
 
-// Reads until the input ends or the room is full, however the bytes arrive, and gives how many came.
-fn read_input<R: Read>(input: &mut R, text: &mut [u8]) -> io::Result<usize>
-    ensures reads { ReadTo text.old result text.new }
-    ensures bytes { IfOk result (λ n. Consumes (R.remaining input.old) (R.remaining input.new) (take n text.new)) }
-    ensures end { IfOk result (λ n. n < length text.new → IsAtEnd (R.remaining input.new)) }
+// Reads until the input ends or the room is full, however the bytes arrive, and gives how many came. It gives an error only where the
+// last read did.
+fn read_input<S: Source>(input: &mut S, text: &mut [u8]) -> io::Result<usize>
+    ensures reads { ReadTo (S.has_failed input.new) text.old result text.new }
+    ensures bytes { IfOk result (λ n. Consumes (S.remaining input.old) (S.remaining input.new) (take n text.new)) }
+    ensures end { IfOk result (λ n. n < length text.new → IsAtEnd (S.remaining input.new)) }
 {
     let mut at = 0;
     // By offset: a step is what one read brings, and `read_to_end` takes a Vec, where memory can run out.
@@ -77,32 +80,34 @@ fn put_output(text: &[u8], how: How, buffer: &mut [u8; TextLimits::SHEET]) -> us
 }
 
 // Reads the list into the room and puts its output into the buffer. The bytes read decide every longer text. A list cut short by a
-// failed read has no output.
-fn reply<R: Read>(
-    input: &mut R,
+// failed read has no output, and every other has one.
+fn reply<S: Source>(
+    input: &mut S,
     text: &mut [u8],
     how: How,
     buffer: &mut [u8; TextLimits::SHEET],
 ) -> io::Result<Answer>
     requires { length text.old ≡ longest_text }
-    ensures replied { Replied how.way how.at text.old text.new result buffer.new }
-    ensures known { IfOk result (λ answer. IfSome (R.remaining input.old) (λ list. take answer.written buffer.new ≡ output_by how.way how.at list)) }
+    ensures replied { Replied (S.has_failed input.new) how.way how.at text.old text.new result buffer.new }
+    ensures known { IfOk result (λ answer. IfSome (S.remaining input.old) (λ list. take answer.written buffer.new ≡ output_by how.way how.at list)) }
 {
     let read = read_input(input, text)?;
     let written = put_output(&text[..read], how, buffer);
     Ok(Answer { read, written })
 }
 
-// Answers the list that a reader has: writes its output, and why the list is refused where it is.
-fn answer_list<R: Read, W: Write, E: Write>(
-    input: &mut R,
+// Answers the list that a source has: writes its output, and why the list is refused where it is. The list is called unread only where
+// the last read failed.
+fn answer_list<S: Source, W: Write, E: Write>(
+    input: &mut S,
     out: &mut W,
     err: &mut E,
     how: How,
 ) -> Result<(), Fault>
-    ensures written { OnOk result (IfSome (R.remaining input.old) (λ list.
+    ensures written { OnOk result (IfSome (S.remaining input.old) (λ list.
         Appends (W.contents out.old) (W.contents out.new) (output_by how.way how.at list))) }
     ensures unread { IsErrOf result Fault.Unread → Keeps (W.contents out.old) (W.contents out.new) }
+    ensures failed { IsErrOf result Fault.Unread → S.has_failed input.new }
 {
     let mut text = [0u8; TextLimits::TEXT];
     let mut buffer = [0u8; TextLimits::SHEET];

@@ -5,6 +5,7 @@
 mod answer;
 mod asked;
 mod explain;
+mod source;
 mod usage;
 
 use crate::answer::answer_input;

@@ -12,7 +12,8 @@ loop-at-init g c = record { within = omega arith; reads = (0, none_yet); bytes =
 pub returns-in_err-n-clause-reads : goal.returns-in_err-n-clause-reads
 returns-in_err-n-clause-reads g c =
     let p = err_from_is_err_and c.from_residual.result c.from_residual.ensures.1 in
-    rw p.1 (failed-to c.loop-at.invariant.reads.1 (omega arith) c.read_once.result c.read_once.ensures.behind c.in_err-n.was)
+    let once = c.read_once.ensures in
+    rw p.1 (failed-to c.loop-at.invariant.reads.1 (omega arith) c.read_once.result once.behind c.in_err-n.was once.failed)
 
 pub returns-then-n-eq0-clause-reads : goal.returns-then-n-eq0-clause-reads
 returns-then-n-eq0-clause-reads g c =

@@ -10,7 +10,7 @@ invariant-loop-at g l =
     record {
       within : l.at ≤ length l.text;
       reads : (n : ℕ) × InputReads l.fn.text (record { at = l.at; last = Got n }) l.text;
-      bytes : Consumes (g.R.Read.remaining l.fn.input) (g.R.Read.remaining l.input) (take l.at l.text);
+      bytes : Consumes (g.S.Read.remaining l.fn.input) (g.S.Read.remaining l.input) (take l.at l.text);
     }
 
 abbrev pub decreases-loop-at : goal.decreases-loop-at

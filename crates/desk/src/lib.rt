@@ -11,8 +11,8 @@ use std::rt::Env;
 // stand there. An array and a length, since a String's memory can run out, and a word cannot fail.
 #[derive(Clone, Copy)]
 pub struct Word {
-    bytes: [u8; 8],
-    len: usize,
+    pub bytes: [u8; 8],
+    pub len: usize,
     pub ghost counted: { len ≤ length bytes },
 }
 

@@ -10,10 +10,11 @@ ghost use Rattle.place.specs.Reply.{output_by, Replied};
 use crate::asked::How;
 use crate::explain::tell_refused;
 use crate::source::Source;
+use desk::tell;
 use plan::limits::TextLimits;
 use plan::output::{output, output_at};
+use std::io;
 use std::io::Write;
-use std::{fmt, io};
 
 // How many bytes were read of a list, and how many its output has.
 #[derive(Clone, Copy)]
@@ -29,11 +30,12 @@ enum Fault {
     Unwritten,
 }
 
-impl fmt::Display for Fault {
-    fn fmt<W: fmt::Write>(&self, f: &mut fmt::Formatter<W>) -> fmt::Result {
+impl Fault {
+    // What is told of it.
+    fn words(self) -> &'static [u8] {
         match self {
-            Fault::Unread => write!(f, "standard input cannot be read"),
-            Fault::Unwritten => write!(f, "standard output cannot be written"),
+            Fault::Unread => b"place: standard input cannot be read\n",
+            Fault::Unwritten => b"place: standard output cannot be written\n",
         }
     }
 }
@@ -124,6 +126,6 @@ fn answer_list<S: Source, W: Write, E: Write>(
 // Answers the list on standard input, by the way and at the side asked for.
 pub(crate) fn answer_input(rt: HostRuntime, how: How) {
     if let Err(fault) = answer_list(&mut rt.stdin(), &mut rt.stdout(), &mut rt.stderr(), how) {
-        let _ = writeln!(&mut rt.stderr(), "place: {fault}");
+        tell(&mut rt.stderr(), fault.words());
     }
 }

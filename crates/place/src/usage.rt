@@ -15,6 +15,9 @@ const USAGE: &[u8] = b"usage: place [above] [SIDE] < LIST > SHEET\n\
     right and down. What is outside the rules gives the word refused and a number,\n\
     and standard error says why. Nothing was read or written.\n";
 
+// A line at a time, so that lines come also where there is no room for all.
 pub(crate) fn tell_usage<W: Write>(err: &mut W) {
-    tell(err, USAGE);
+    for line in USAGE.split_inclusive(|b| *b == b'\n') {
+        tell(err, line);
+    }
 }

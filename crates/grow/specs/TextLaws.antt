@@ -1,5 +1,5 @@
--- The digits that the library prints are those of a number as in a list, and so are its fewest digits in base 10; and the bytes of what is
--- told.
+-- The digits that the library prints are those of a number as in a list, and so are its fewest digits in base 10; how many there are at
+-- most; and the bytes of what is told.
 -- Assumes nothing.
 use Rattle.std.specs.Prelude.{◌≡◌, refl, List, [], ◌∷◌, ◌++◌, ℕ, zero, suc, ◌+◌, ◌-◌, ◌*◌, ◌/◌, ◌%◌, ◌^◌, ◌≤◌, ◌<◌, Ok, Err, length, take}
 use Rattle.std.specs.Prelude as rattle

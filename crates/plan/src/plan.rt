@@ -1,5 +1,5 @@
 // A plan: the sites of one level in list order and, once it is placed, the way, its side and corners.
-ghost use Rattle.std.specs.Prelude.{◌≡◌, [], ◌∷◌, ◌++◌};
+ghost use Rattle.std.specs.Prelude.{◌≡◌, [], ◌∷◌, ◌++◌, take};
 ghost use Rattle.plan.specs.rules.List.{Listed, entered};
 ghost use Rattle.plan.specs.calls.Plan.{unplaced_plan, sites_in, Valid};
 ghost use Rattle.plan.specs.calls.Answers.{started, handed};
@@ -70,6 +70,30 @@ impl Plan {
             names: [Name::none(); Limits::SITES],
             places: [nowhere; Limits::SITES],
             placement: None,
+        }
+    }
+
+    // The names of its sites, in list order.
+    pub fn names(&self) -> &[Name]
+        ensures { result.now ≡ take self.now.count self.now.names }
+    {
+        &self.names[..self.count]
+    }
+
+    // The places of its sites, in list order.
+    pub fn places(&self) -> &[Place]
+        ensures { result.now ≡ take self.now.count self.now.places }
+    {
+        &self.places[..self.count]
+    }
+
+    // The way that it is placed, and while it is not placed the usual one.
+    pub fn way(&self) -> Way
+        ensures { result ≡ self.now.way }
+    {
+        match self.placement {
+            Some(placement) => placement.way,
+            None => Way::Usual,
         }
     }
 

@@ -5,7 +5,7 @@ ghost use Rattle.placing.specs.rules.Corner.{Corner, directions_of};
 ghost use Rattle.placing.specs.rules.Label.{Onward};
 ghost use Rattle.placing.specs.rules.Growth.{growth_number};
 ghost use Rattle.placing.specs.deciding.Decides.{Decides};
-ghost use Rattle.placing.specs.deciding.Growth.{growth_along, growth_of};
+ghost use Rattle.placing.specs.deciding.Growth.{growth_along, further_of, growth_of};
 ghost use Rattle.placing.specs.code.Steps.{label_at};
 ghost use Rattle.placing.specs.code.Reach.{LiesToward, distance_between};
 
@@ -63,6 +63,20 @@ fn growth_along(d: Direction, a: Units, e: Direction, b: Units) -> Growth
     }
 }
 
+// Of the growths along both axes the one up to which two labels do not meet: never if either is never, else the larger. By hand, for speed:
+// with the derived `max` placing 240 sites above the spot takes a tenth to a fifth more time, at as many instructions.
+fn further(x: Growth, y: Growth) -> Growth
+    ensures { result ≡ further_of x y }
+{
+    let Growth::UpTo(along_x) = x else {
+        return x;
+    };
+    let Growth::UpTo(along_y) = y else {
+        return y;
+    };
+    if along_x <= along_y { y } else { x }
+}
+
 // The label of a site: where the site stands, and the directions in which the label goes from it. A caller who looks at many labels of a
 // corner finds that corner's directions once.
 #[derive(Clone, Copy)]
@@ -83,8 +97,7 @@ impl Label {
         }
     }
 
-    // The pair test: how far the two labels grow. Of the growths along both axes it is the further, up to which they do not meet: never if
-    // either is never, else the larger.
+    // The pair test: how far the two labels grow. Of the growths along both axes it is the further, up to which they do not meet.
     pub(crate) fn growth(self, other: Label) -> Growth
         requires { OnPlan self.site × OnPlan other.site }
         ensures { (c e : ℕ) → self.toward ≡ directions_of c → other.toward ≡ directions_of e
@@ -94,7 +107,7 @@ impl Label {
         let (d, e) = (self.toward, other.toward);
         let along_x = growth_along(d.x, s.x, e.x, t.x);
         let along_y = growth_along(d.y, s.y, e.y, t.y);
-        along_x.max(along_y)
+        further(along_x, along_y)
     }
 }
 

@@ -1,5 +1,5 @@
 -- Document 01: "A plan is what these calls hand back, kept or copied but never patched by hand; a contract may ask that of the
--- plan it gets, and every call is proved to keep it." What the contracts ask is exactly that.
+-- plan it gets, and every call is proved to keep it." What the type of a plan asks is exactly that.
 -- Assumes nothing.
 use Rattle.std.specs.Prelude.{◌≡◌, refl, List, [], ◌∷◌, ℕ, ◌+◌, ◌*◌, ◌≤◌, length, replicate, Ok}
 use Rattle.std.proofs.Common.{ap, ◌∙◌, subst, arith, length-append}

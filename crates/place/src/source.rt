@@ -6,8 +6,8 @@ ghost use Rattle.std.specs.Io.KnownBytes.{ReadConsumes};
 use std::io;
 use std::io::Read;
 
-// A reader of which a proof can say whether its last read failed. Reading is proved for every source, and that its last read failed is
-// known of one alone whose last read gave an error: so no code that reads makes up that a read failed.
+// A reader of which a proof can say that its last read failed. Reading is proved for every source, and only an error of `bring` shows that
+// the last read failed: so nothing that reads by it makes up a failed read.
 pub(crate) trait Source: Read {
     ghost has_failed: { Self → Type 0 };
 
@@ -18,6 +18,7 @@ pub(crate) trait Source: Read {
         ensures failed { OnErr result (has_failed self.new) };
 }
 
+// Every reader is a source. What its read gives is handed on as it is: when a read fails, the contract of `read` does not say.
 impl<R: Read> Source for R {
     ghost has_failed = { λ _. ⊤ };
 
